@@ -1,0 +1,11 @@
+-- What document 01 means, in its order: definitions only. Read them in this order, next to the document.
+pub mod Words
+pub mod Derivation
+pub mod Cost
+pub mod Grammar
+pub mod Buffers
+pub mod File
+pub mod Moves
+pub mod Run
+pub mod Pace
+pub mod Refusals

@@ -1,0 +1,111 @@
+-- Document 01, "Pace": cycles, which of them are clean, their times, and the report.
+use Prim.Native.Nat.{ℕ, zero, suc, _+_, _-_, _*_, _%_, _≤_, _<_}
+use mathlib.Core.Path.{_≡_}
+use mathlib.Core.List.{List, [], _∷_, List·Memᴰ}
+use mathlib.Core.Logic.{_⊎_}
+use lib.ListN.{length, getD}
+use lib.Ieee.{div, ofInt, binary64}
+use lib.IntN.{pos}
+use Rattle.grammar.specs.Words.{opening, closing, tickUnit}
+use Rattle.grammar.specs.Moves.{Move, Edit, edits}
+use Rattle.grammar.specs.Refusals.{Outcome, given, refused}
+use Rattle.grammar.specs.Grammar.{Meets}
+use Rattle.grammar.specs.Run.{LogFits, parseRefusals, RunOf, Settled, editsLeft, rulesLeft}
+use Rattle.grammar.specs.declared.Refusal.{Refusal}
+use Rattle.grammar.specs.declared.Refusal.the-variants.{BadLog}
+use Rattle.grammar.specs.declared.Pace.{Pace}
+use Rattle.grammar.specs.declared.Pace.the-variants.{Idle, Mean}
+use Rattle.grammar.specs.declared.Report.{Report}
+
+-- ---- Cycles
+
+-- Token t at place p is kept: a match move has it.
+abbrev pub Kept : List Move → ℕ → ℕ → Type 0
+Kept ms p t = List·Memᴰ (Move.match p t) ms
+
+-- An edit has place p: a delete's place is its token's, an insert's is r.
+abbrev pub Edited : List Move → ℕ → Type 0
+Edited ms p = (k X : ℕ) × List·Memᴰ (record { kind = k; place = p; symbol = X }) (edits ms)
+
+-- The two places of a cycle.
+pub record Span : Type 0 where
+  pub opened : ℕ
+  pub closed : ℕ
+
+-- "A cycle is a kept opening mark at place a and a kept closing mark at place b > a with no kept opening or closing mark
+-- between." Where both marks are 0 there are no cycles.
+pub record Cycle (o c : ℕ) (ms : List Move) (s : Span) : Type 0 where
+  pub marked : 1 ≤ o
+  pub ordered : s .opened < s .closed
+  pub opens : Kept ms (s .opened) o
+  pub closes : Kept ms (s .closed) c
+  pub no-opening : (p : ℕ) → s .opened < p → p < s .closed → Kept ms p o → ⊥
+  pub no-closing : (p : ℕ) → s .opened < p → p < s .closed → Kept ms p c → ⊥
+
+-- "It is clean when no edit has place p with a < p <= b."
+pub record Clean (o c : ℕ) (ms : List Move) (s : Span) : Type 0 where
+  pub cycle : Cycle o c ms s
+  pub unedited : (p : ℕ) → s .opened < p → p ≤ s .closed → Edited ms p → ⊥
+
+-- Each span closes behind the one before it.
+pub data Ascending : List Span → Type 0 where
+  nothing : Ascending []
+  only : {s : Span} → Ascending (s ∷ [])
+  also : {s u : Span} {ss : List Span} → s .closed < u .closed → Ascending (u ∷ ss) → Ascending (s ∷ u ∷ ss)
+
+-- The clean cycles of the moves, each once, in order.
+pub record CleanCycles (o c : ℕ) (ms : List Move) (cs : List Span) : Type 0 where
+  pub ascending : Ascending cs
+  pub every : (s : Span) → Clean o c ms s → List·Memᴰ s cs
+  pub only : (s : Span) → List·Memᴰ s cs → Clean o c ms s
+
+-- ---- Times
+
+-- "Tick b minus tick a modulo 2^32."
+unfoldable pub wrapped : ℕ → ℕ → ℕ
+wrapped a b = (b + 4294967296 - a) % 4294967296
+
+-- The tick unit in ms: "0 one ms, 1 ten ms".
+unfoldable pub unitMs : ℕ → ℕ
+unitMs zero = 1
+unitMs (suc u) = 10
+
+-- The time of a cycle in ms: "tick b minus tick a modulo 2^32, times ten for unit 1".
+unfoldable pub cycleMs : ℕ → List ℕ → Span → ℕ
+cycleMs unit ticks s = wrapped (getD ticks (s .opened) 0) (getD ticks (s .closed) 0) * unitMs unit
+
+-- "The sum of their times in ms."
+unfoldable pub totalMs : ℕ → List ℕ → List Span → ℕ
+totalMs unit ticks [] = 0
+totalMs unit ticks (s ∷ ss) = cycleMs unit ticks s + totalMs unit ticks ss
+
+-- "A pace: idle when the count is 0, else the mean in ms as an f64, sum and count each converted .. and divided once."
+unfoldable pub paceOf : ℕ → ℕ → Pace
+paceOf zero sum = Idle
+paceOf (suc n) sum = Mean (div binary64 (ofInt binary64 (pos sum)) (ofInt binary64 (pos (suc n))))
+
+-- ---- The report
+
+-- The report of a list of clean cycles.
+unfoldable pub reportOf : ℕ → List ℕ → List Span → Report
+reportOf unit ticks cs =
+    record { count = length cs; sum = totalMs unit ticks cs; pace = paceOf (length cs) (totalMs unit ticks cs) }
+
+-- The report's conditions: the parser's, and that "ticks and tokens" do not "differ in number" under refusal 10.
+pub data PaceMeets (ws log ticks : List ℕ) : Refusal → Type 0 where
+  grammar : {r : Refusal} → Meets ws r → PaceMeets ws log ticks r
+  fits : LogFits ws log → length ticks ≡ length log → PaceMeets ws log ticks BadLog
+
+-- The report of the moves, or the refusal.
+pub data Reports (ws ticks : List ℕ) : Outcome (List Move) → Outcome Report → Type 0 where
+  paced : {ms : List Move} {cs : List Span} → CleanCycles (opening ws) (closing ws) ms cs
+      → Reports ws ticks (given ms) (given (reportOf (tickUnit ws) ticks cs))
+  unpaced : {r : Refusal} → Reports ws ticks (refused r) (refused r)
+
+-- The report's answer and the two buffers: it "runs the parse itself" and leaves in them what the parse leaves.
+pub record Reported (ws log ticks : List ℕ) (editRoom ruleRoom : ℕ) (answer : Outcome Report) (editBuffer ruleBuffer : List ℕ) : Type 0 where
+  pub outcome : Outcome (List Move)
+  pub settled : Settled (PaceMeets ws log ticks) parseRefusals (RunOf ws log editRoom ruleRoom) outcome
+  pub reports : Reports ws ticks outcome answer
+  pub leaves-edits : editBuffer ≡ editsLeft editRoom outcome
+  pub leaves-rules : ruleBuffer ≡ rulesLeft ruleRoom outcome

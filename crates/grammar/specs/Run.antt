@@ -1,0 +1,200 @@
+-- Document 01, "Moves" and refusals 10 to 12: the run of a log, and what the parser answers and leaves.
+-- The run is one decision, repeated; a correction is one decision with all its deletes and inserts.
+use Prim.Native.Nat.{ℕ, zero, suc, _+_, _*_, _≤_, _<_}
+use mathlib.Core.Path.{_≡_}
+use mathlib.Core.Bool.{Bool, cond}
+use mathlib.Core.List.{List, [], _∷_, _++_, tail}
+use mathlib.Core.Option.{Option, none, some}
+use lib.ListN.{length, getD, take, drop}
+use lib.Dec.{leb, ltb}
+use Rattle.grammar.specs.Words.{END, terminalCount}
+use Rattle.grammar.specs.Derivation.{First}
+use Rattle.grammar.specs.Cost.{ListCost}
+use Rattle.grammar.specs.Grammar.{Grammar, grammarOf, Meets, grammarRefusals}
+use Rattle.grammar.specs.Buffers.{filled, cleared}
+use Rattle.grammar.specs.Moves.{Move, Edit, edits, editWords, ruleNumbers}
+use Rattle.grammar.specs.Refusals.{Lowest, Outcome, given, refused}
+use Rattle.grammar.specs.declared.Refusal.{Refusal}
+use Rattle.grammar.specs.declared.Refusal.the-variants.{BadLog, StackFull, NoRoom}
+
+-- ---- The search: places are counted from 0, so i symbols stand above A(i+1), and those are the ones inserted.
+
+-- A correction at token t that inserts the i topmost symbols is plausible: t is in FIRST of the symbol below them, and
+-- their cost is strictly below t's reliability.
+pub record Plausible (G : Grammar) (stack : List ℕ) (t i : ℕ) : Type 0 where
+  pub within : i < length stack
+  pub first : First (G .rules) (getD stack i END ∷ []) t
+  pub cost : ℕ
+  pub costs : ListCost (G .rules) (G .price) (take i stack) cost
+  pub below : G .reliable cost t
+
+-- "Take the least place r .. for which some i has" a plausible correction; "for that r take the least i". `rest` is the
+-- log from the current place on, END last, and r stands j places behind the current one.
+pub record Hit (G : Grammar) (stack rest : List ℕ) (j i : ℕ) : Type 0 where
+  pub within : j < length rest
+  pub plausible : Plausible G stack (getD rest j END) i
+  pub least-r : (h k : ℕ) → h < j → Plausible G stack (getD rest h END) k → ⊥
+  pub least-i : (k : ℕ) → k < i → Plausible G stack (getD rest j END) k → ⊥
+
+-- ---- The choice of move: "one decision over all cases of top and token"
+
+pub data Pick : Type 0 where
+  -- match the token
+  matching : Pick
+  -- expand the top by rule p, to β
+  expanding : (p : ℕ) (β : List ℕ) → Pick
+  -- drop the top
+  dropping : Pick
+  -- delete j tokens and insert i symbols
+  correcting : (j i : ℕ) → Pick
+
+-- The choice at a stack and the rest of the log, whose first token t is the current one. In the first two t is in FIRST
+-- of the whole stack by itself; the third says so; the fourth says that it is not: "t is in error and nothing has moved
+-- for it".
+pub data Choice (G : Grammar) : List ℕ → List ℕ → Pick → Type 0 where
+  -- "Top equal to t: match."
+  match : {X t : ℕ} {σ rest : List ℕ} → X ≡ t → Choice G (X ∷ σ) (t ∷ rest) matching
+  -- "Top a nonterminal with t in its FIRST: expand by its one rule whose right side has t in FIRST."
+  expand : {A t p : ℕ} {β σ rest : List ℕ} → G .rules p A β → First (G .rules) β t
+      → Choice G (A ∷ σ) (t ∷ rest) (expanding p β)
+  -- "Any other top can be empty: drop."
+  pass : {X t : ℕ} {σ rest : List ℕ} → First (G .rules) (X ∷ σ) t → (First (G .rules) (X ∷ []) t → ⊥)
+      → Choice G (X ∷ σ) (t ∷ rest) dropping
+  -- "Otherwise t is in error": the hit with the least r, then the least i.
+  correct : {t j i : ℕ} {σ rest : List ℕ} → (First (G .rules) σ t → ⊥) → Hit G σ (t ∷ rest) j i
+      → Choice G σ (t ∷ rest) (correcting j i)
+
+-- ---- What a choice does
+
+-- A state of the run: the stack from its top, the current place, the tokens from there on with END last, and how many
+-- edit records and rule numbers are listed.
+pub record State : Type 0 where
+  pub stack : List ℕ
+  pub place : ℕ
+  pub rest : List ℕ
+  pub records : ℕ
+  pub listed : ℕ
+
+-- "Behind [the log] stands END, at place n."
+abbrev pub started : List ℕ → List ℕ → State
+started begin log = record { stack = begin; place = 0; rest = log ++ (END ∷ []); records = 0; listed = 0 }
+
+-- "Each token from the current place to r-1 is a delete move", which names its token's place.
+unfoldable pub deletes : ℕ → List ℕ → List Move
+deletes p [] = []
+deletes p (t ∷ ts) = Move.delete p t ∷ deletes (p + 1) ts
+
+-- "Each of A1..Ai-1, top first, is an insert move", which names r.
+unfoldable pub inserts : ℕ → List ℕ → List Move
+inserts r [] = []
+inserts r (X ∷ Xs) = Move.insert r X ∷ inserts r Xs
+
+-- The moves that a choice makes.
+unfoldable pub made : State → Pick → List Move
+made s matching = Move.match (s .place) (getD (s .rest) 0 END) ∷ []
+made s (expanding p β) = Move.expand p ∷ []
+made s dropping = Move.drop (getD (s .stack) 0 END) ∷ []
+made s (correcting j i) = deletes (s .place) (take j (s .rest)) ++ inserts (s .place + j) (take i (s .stack))
+
+-- The state behind them: "one pop, next token"; "one pop, the right side is pushed, the rule number is listed"; "one
+-- pop, nothing listed"; "one pop each. Token r is then current".
+unfoldable pub next : State → Pick → State
+next s matching =
+    record { stack = tail (s .stack); place = s .place + 1; rest = tail (s .rest); records = s .records; listed = s .listed }
+next s (expanding p β) =
+    record { stack = β ++ tail (s .stack); place = s .place; rest = s .rest; records = s .records; listed = s .listed + 1 }
+next s dropping =
+    record { stack = tail (s .stack); place = s .place; rest = s .rest; records = s .records; listed = s .listed }
+next s (correcting j i) =
+    record {
+      stack = drop i (s .stack);
+      place = s .place + j;
+      rest = drop j (s .rest);
+      records = s .records + (j + i);
+      listed = s .listed;
+    }
+
+-- What bounds a run: the most symbols on the stack, and the lengths of the edit buffer and the rule buffer in words.
+pub record Limits : Type 0 where
+  pub height : ℕ
+  pub editRoom : ℕ
+  pub ruleRoom : ℕ
+
+-- The refusal that a choice meets. 11: "an expand would leave more than 256 symbols on the stack, END counted"; 12: "the
+-- next rule number or edit record does not fit", a record where not all three words fit; "an expand tests 11 first". All
+-- moves of a correction are records, so one of them does not fit exactly where the last does not.
+unfoldable pub limit : Limits → State → Pick → Option Refusal
+limit L s matching = none
+limit L s (expanding p β) =
+    cond (ltb (L .height) (length (β ++ tail (s .stack)))) (some StackFull) (cond (ltb (s .listed) (L .ruleRoom)) none (some NoRoom))
+limit L s dropping = none
+limit L s (correcting j i) = cond (leb (3 * (s .records + (j + i))) (L .editRoom)) none (some NoRoom)
+
+-- ---- The run
+
+-- From state s on, the run makes the moves ms and then has ended ("the run ends when END is matched"), or is refused by
+-- "the first move that meets" 11 or 12.
+pub data Run (G : Grammar) (L : Limits) : State → List Move → Option Refusal → Type 0 where
+  ended : {s : State} → s .stack ≡ [] → s .rest ≡ [] → Run G L s [] none
+  moved : {s : State} {x : Pick} {ms : List Move} {o : Option Refusal} → Choice G (s .stack) (s .rest) x → limit L s x ≡ none
+      → Run G L (next s x) ms o → Run G L s (made s x ++ ms) o
+  stopped : {s : State} {x : Pick} {r : Refusal} → Choice G (s .stack) (s .rest) x → limit L s x ≡ some r → Run G L s [] (some r)
+
+-- ---- The parser's answer
+
+-- "A log is n tokens, 0..4,096, each 1..T-1."
+pub record LogFits (ws log : List ℕ) : Type 0 where
+  pub count : length log ≤ 4096
+  pub low : (i : ℕ) → i < length log → 1 ≤ getD log i END
+  pub high : (i : ℕ) → i < length log → getD log i END < terminalCount ws
+
+-- The parser's conditions: those of the grammar check, and refusal 10.
+pub data ParseMeets (ws log : List ℕ) : Refusal → Type 0 where
+  grammar : {r : Refusal} → Meets ws r → ParseMeets ws log r
+  fits : LogFits ws log → ParseMeets ws log BadLog
+
+-- Refusals 5 to 10, in order.
+abbrev pub parseRefusals : List Refusal
+parseRefusals = grammarRefusals ++ (BadLog ∷ [])
+
+-- What a run comes to: its moves; or the lowest refusal that applies before it; or the refusal that it meets.
+pub data Settled (Met : Refusal → Type 0) (rs : List Refusal) (Runs : List Move → Option Refusal → Type 0) : Outcome (List Move) → Type 0 where
+  whole : {ms : List Move} → Lowest Met rs none → Runs ms none → Settled Met rs Runs (given ms)
+  before : {r : Refusal} → Lowest Met rs (some r) → Settled Met rs Runs (refused r)
+  within : {ms : List Move} {r : Refusal} → Lowest Met rs none → Runs ms (some r) → Settled Met rs Runs (refused r)
+
+-- The run of a log by the words' grammar, from START over END, with at most 256 symbols on the stack and the room of the
+-- two lent buffers.
+abbrev pub RunOf : List ℕ → List ℕ → ℕ → ℕ → List Move → Option Refusal → Type 0
+RunOf ws log editRoom ruleRoom =
+    Run (grammarOf ws) (record { height = 256; editRoom = editRoom; ruleRoom = ruleRoom }) (started (grammarOf ws .begin) log)
+
+-- The counts that the parser returns: moves, edit records and rule numbers listed.
+pub record Counts : Type 0 where
+  pub moves : ℕ
+  pub records : ℕ
+  pub listed : ℕ
+
+abbrev pub countsOf : List Move → Counts
+countsOf ms = record { moves = length ms; records = length (edits ms); listed = length (ruleNumbers ms) }
+
+unfoldable pub answered : Outcome (List Move) → Outcome Counts
+answered (given ms) = given (countsOf ms)
+answered (refused r) = refused r
+
+-- What the edit buffer and the rule buffer then hold.
+unfoldable pub editsLeft : ℕ → Outcome (List Move) → List ℕ
+editsLeft room (given ms) = filled room (editWords (edits ms))
+editsLeft room (refused r) = cleared room
+
+unfoldable pub rulesLeft : ℕ → Outcome (List Move) → List ℕ
+rulesLeft room (given ms) = filled room (ruleNumbers ms)
+rulesLeft room (refused r) = cleared room
+
+-- The parser's answer and its two buffers, for every list of words, every log and all lengths of the buffers.
+pub record Parsed (ws log : List ℕ) (editRoom ruleRoom : ℕ) (answer : Outcome Counts) (editBuffer ruleBuffer : List ℕ) : Type 0 where
+  pub outcome : Outcome (List Move)
+  pub settled : Settled (ParseMeets ws log) parseRefusals (RunOf ws log editRoom ruleRoom) outcome
+  pub answers : answer ≡ answered outcome
+  pub leaves-edits : editBuffer ≡ editsLeft editRoom outcome
+  pub leaves-rules : ruleBuffer ≡ rulesLeft ruleRoom outcome

@@ -1,0 +1,123 @@
+-- Document 01, "Symbols and grammar words": a grammar is a list of u16 words. Everything here is defined on every
+-- list of numbers; a word past the end counts as 0, and `Shaped` says that none such is needed.
+use Prim.Native.Nat.{ℕ, zero, suc, _+_, _*_, _≤_, _<_}
+use mathlib.Core.Path.{_≡_}
+use mathlib.Core.List.{List}
+use lib.ListN.{length, getD, take, drop}
+
+-- The word at a place.
+abbrev pub word : List ℕ → ℕ → ℕ
+word ws i = getD ws i 0
+
+-- ---- The header: words 0 to 5
+
+-- T, terminals, END included.
+abbrev pub terminalCount : List ℕ → ℕ
+terminalCount ws = word ws 0
+
+-- N, nonterminals.
+abbrev pub nonterminalCount : List ℕ → ℕ
+nonterminalCount ws = word ws 1
+
+-- P, rules.
+abbrev pub ruleCount : List ℕ → ℕ
+ruleCount ws = word ws 2
+
+-- The opening mark of a cycle.
+abbrev pub opening : List ℕ → ℕ
+opening ws = word ws 3
+
+-- The closing mark of a cycle.
+abbrev pub closing : List ℕ → ℕ
+closing ws = word ws 4
+
+-- The tick unit: 0 one ms, 1 ten ms.
+abbrev pub tickUnit : List ℕ → ℕ
+tickUnit ws = word ws 5
+
+-- How many words the header has: the terminals' words begin behind it.
+abbrev pub headerSize : List ℕ → ℕ
+headerSize ws = 6
+
+-- ---- Then 2 words for each terminal, then P rules
+
+-- The insert cost of terminal t.
+abbrev pub insertCost : List ℕ → ℕ → ℕ
+insertCost ws t = word ws (headerSize ws + 2 * t)
+
+-- The reliability of terminal t, as it stands in the words. (END's counts as unlimited: `Reliable` of Grammar.antt.)
+abbrev pub reliability : List ℕ → ℕ → ℕ
+reliability ws t = word ws (headerSize ws + 2 * t + 1)
+
+-- Where rule p stands: the first behind the terminals' words, each other behind the one before it. A rule is its left
+-- side, its length and its symbols.
+unfoldable pub rulePlace : List ℕ → ℕ → ℕ
+rulePlace ws zero = headerSize ws + 2 * terminalCount ws
+rulePlace ws (suc p) = rulePlace ws p + 2 + word ws (rulePlace ws p + 1)
+
+-- "A rule's left side k names symbol 64 + k."
+abbrev pub leftSide : List ℕ → ℕ → ℕ
+leftSide ws p = 64 + word ws (rulePlace ws p)
+
+-- How many symbols the right side of rule p has.
+abbrev pub rightSize : List ℕ → ℕ → ℕ
+rightSize ws p = word ws (rulePlace ws p + 1)
+
+-- The right side of rule p.
+unfoldable pub rightSide : List ℕ → ℕ → List ℕ
+rightSide ws p = take (rightSize ws p) (drop (rulePlace ws p + 2) ws)
+
+-- ---- Symbols
+
+-- "Terminal 0 is END."
+abbrev pub END : ℕ
+END = 0
+
+-- "Symbol 64 is START."
+abbrev pub START : ℕ
+START = 64
+
+-- A terminal is below 64.
+abbrev pub Terminal : ℕ → Type 0
+Terminal x = x < 64
+
+-- What may stand in a rule: "a terminal 0..T-1 or a nonterminal 64..64+N-1", and END "never stands in a rule".
+pub data RuleSymbol (T N x : ℕ) : Type 0 where
+  terminal : 1 ≤ x → x < T → RuleSymbol T N x
+  nonterminal : 64 ≤ x → x < 64 + N → RuleSymbol T N x
+
+-- ---- The shape
+
+-- Opening and closing mark: "each 1..T-1, or both 0 (no cycles); they may be equal".
+pub data Marks (T o c : ℕ) : Type 0 where
+  marked : 1 ≤ o → o < T → 1 ≤ c → c < T → Marks T o c
+  unmarked : o ≡ 0 → c ≡ 0 → Marks T o c
+
+-- The words of a terminal other than END: "cost 1..1,000; reliability 0..60,000".
+pub record TerminalWords (ws : List ℕ) (t : ℕ) : Type 0 where
+  pub cost-low : 1 ≤ insertCost ws t
+  pub cost-high : insertCost ws t ≤ 1000
+  pub reliability-high : reliability ws t ≤ 60000
+
+-- The words of a rule: "left side, length, symbols", "0..N-1, 0..8, symbols".
+pub record RuleWords (ws : List ℕ) (p : ℕ) : Type 0 where
+  pub left : word ws (rulePlace ws p) < nonterminalCount ws
+  pub size : rightSize ws p ≤ 8
+  pub symbols : (i : ℕ) → i < rightSize ws p → RuleSymbol (terminalCount ws) (nonterminalCount ws) (word ws (rulePlace ws p + 2 + i))
+
+-- "The words have the shape above": the table's ranges, END's two words, and "the words end with the last rule".
+-- The last line also says that no word of any of them lies past the end, since each rule ends where the next begins.
+pub record Shaped (ws : List ℕ) : Type 0 where
+  pub terminals-low : 1 ≤ terminalCount ws
+  pub terminals-high : terminalCount ws ≤ 64
+  pub nonterminals-low : 1 ≤ nonterminalCount ws
+  pub nonterminals-high : nonterminalCount ws ≤ 64
+  pub rules-low : 1 ≤ ruleCount ws
+  pub rules-high : ruleCount ws ≤ 256
+  pub marks : Marks (terminalCount ws) (opening ws) (closing ws)
+  pub unit : tickUnit ws ≤ 1
+  pub end-cost : insertCost ws END ≡ 0
+  pub end-reliability : reliability ws END ≡ 0
+  pub terminals : (t : ℕ) → 1 ≤ t → t < terminalCount ws → TerminalWords ws t
+  pub rules : (p : ℕ) → p < ruleCount ws → RuleWords ws p
+  pub whole : rulePlace ws (ruleCount ws) ≡ length ws

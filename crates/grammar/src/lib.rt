@@ -1,0 +1,42 @@
+// The answers that document 01 names. What they mean stands in specs/, in document 01's order and words.
+
+// Document 01, "Refusal numbers". `numberOf` of specs/Refusals.antt gives each its number.
+pub enum Refusal {
+    // 1: the file is empty, not a multiple of 512, or over 5,632 bytes.
+    BadSize,
+    // 2: some block's check is wrong.
+    BadCheck,
+    // 3: some block number, use count or unused word is wrong.
+    BadBlock,
+    // 4: the word buffer is shorter than the file's words.
+    ShortWords,
+    // 5: the grammar words break the shape.
+    BadShape,
+    // 6: a nonterminal is unreachable.
+    Unreachable,
+    // 7: a nonterminal derives no terminal string.
+    NoString,
+    // 8: a nonterminal costs over 60,000.
+    TooCostly,
+    // 9: two rules share a predict token.
+    SharedPredict,
+    // 10: over 4,096 tokens, a token outside 1..T-1, or ticks and tokens differ in number.
+    BadLog,
+    // 11: an expand would leave more than 256 symbols on the stack, END counted.
+    StackFull,
+    // 12: the next rule number or edit record does not fit.
+    NoRoom,
+}
+
+// Document 01, "Pace": a station without a clean cycle is idle and carries no time.
+pub enum Pace {
+    Idle,
+    Mean(f64),
+}
+
+// Document 01, "Pace": the count of clean cycles, the sum of their times in ms, and a pace.
+pub struct Report {
+    pub count: u32,
+    pub sum: u64,
+    pub pace: Pace,
+}
