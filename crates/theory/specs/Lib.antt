@@ -1,3 +1,4 @@
+pub mod Pigeonhole
 pub mod Leftmost
 pub mod Closed
 pub mod Reach
