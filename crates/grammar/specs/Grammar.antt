@@ -30,7 +30,7 @@ pub record RuleOf (ws : List ℕ) (p A : ℕ) (β : List ℕ) : Type 0 where
 -- A cost of c is strictly below the reliability of token t; END's "counts as unlimited".
 pub data Reliable (ws : List ℕ) (c t : ℕ) : Type 0 where
   unlimited : t ≡ END → Reliable ws c t
-  below : c < reliability ws t → Reliable ws c t
+  limited : c < reliability ws t → Reliable ws c t
 
 -- The grammar that the words are. "The stack begins as START over END."
 abbrev pub grammarOf : List ℕ → Grammar
