@@ -13,7 +13,7 @@ use Rattle.grammar.specs.Grammar.{Grammar}
 use Rattle.grammar.specs.Run.{Pick, matching, expanding, dropping, correcting, Choice}
 use Rattle.model.specs.Tests.{none-some, some-same, both, left-of, right-of, equal-passes}
 use Rattle.model.specs.Ruled.{Rule, RuleAt}
-use Rattle.model.specs.Decided.{Decided, first-symbol}
+use Rattle.model.specs.Decided.{Tests, Decided, first-symbol}
 use Rattle.model.specs.Search.{Place, seek, Sought, sought}
 
 pub record Numbered : Type 0 where
@@ -25,17 +25,17 @@ after none = none
 after (some r) = some (record { number = suc (r .number); right = r .right })
 
 -- The first rule of X whose right side has t in FIRST.
-unfoldable pub ruleFor : {G : Grammar} → Decided G → ℕ → ℕ → List Rule → Option Numbered
+unfoldable pub ruleFor : Tests → ℕ → ℕ → List Rule → Option Numbered
 unfolding after
 ruleFor D X t [] = none
 ruleFor D X t (r ∷ rs) =
     cond (eqb X (r .left) && D .first (r .right) t) (some (record { number = 0; right = r .right })) (after (ruleFor D X t rs))
 
-pub data RuleFound {G : Grammar} (D : Decided G) (X t : ℕ) (rs : List Rule) : Option Numbered → Type 0 where
+pub data RuleFound (D : Tests) (X t : ℕ) (rs : List Rule) : Option Numbered → Type 0 where
   found : {r : Numbered} → RuleAt rs (r .number) X (r .right) → T (D .first (r .right) t) → RuleFound D X t rs (some r)
   missing : ((p : ℕ) (β : List ℕ) → RuleAt rs p X β → T (D .first β t) → ⊥) → RuleFound D X t rs none
 
-module _ {G : Grammar} (D : Decided G) (X t : ℕ) where
+module _ (D : Tests) (X t : ℕ) where
   skip : {r : Rule} {rs : List Rule} {o : Option Numbered} → (X ≡ r .left → T (D .first (r .right) t) → ⊥) → RuleFound D X t rs o
     → RuleFound D X t (r ∷ rs) (after o)
   unfolding after
@@ -67,34 +67,34 @@ unfoldable pub byHit : Option Place → Option Pick
 byHit none = none
 byHit (some p) = some (correcting (p .deleted) (p .inserted))
 
-unfoldable pub byRest : {G : Grammar} → Decided G → List ℕ → List ℕ → Bool → Option Pick
-unfolding byHit
+unfoldable pub byRest : Tests → List ℕ → List ℕ → Bool → Option Pick
+unfolding byHit seek
 byRest D σ rest true = some dropping
 byRest D σ rest false = byHit (seek D σ rest)
 
-unfoldable pub byRule : {G : Grammar} → Decided G → List ℕ → List ℕ → ℕ → Option Numbered → Option Pick
+unfoldable pub byRule : Tests → List ℕ → List ℕ → ℕ → Option Numbered → Option Pick
 unfolding byRest
 byRule D σ rest t (some r) = some (expanding (r .number) (r .right))
 byRule D σ rest t none = byRest D σ rest (D .first σ t)
 
-unfoldable pub byTop : {G : Grammar} → Decided G → ℕ → List ℕ → ℕ → List ℕ → Bool → Option Pick
-unfolding byRule
+unfoldable pub byTop : Tests → ℕ → List ℕ → ℕ → List ℕ → Bool → Option Pick
+unfolding byRule ruleFor
 byTop D X σ t rest true = some matching
 byTop D X σ t rest false = byRule D (X ∷ σ) (t ∷ rest) t (ruleFor D X t (D .rules))
 
-unfoldable pub choose : {G : Grammar} → Decided G → List ℕ → List ℕ → Option Pick
+unfoldable pub choose : Tests → List ℕ → List ℕ → Option Pick
 unfolding byTop
 choose D [] rest = none
 choose D (X ∷ σ) [] = none
 choose D (X ∷ σ) (t ∷ rest) = byTop D X σ t rest (eqb X t)
 
 module _
-  {G : Grammar} (D : Decided G) (X t : ℕ) (σ rest : List ℕ)
+  {G : Grammar} (D : Tests) (d : Decided G D) (X t : ℕ) (σ rest : List ℕ)
   (known : All (λ Y. SymbolCost (G .rules) (G .price) Y (D .cost Y)) (X ∷ σ)) (tokens : All Terminal (t ∷ rest)) where
   token : {u : ℕ} {us : List ℕ} → All Terminal (u ∷ us) → Terminal u
   token (All.also l a) = l
 
-  by-hit : {x : Pick} → (First (G .rules) (X ∷ σ) t → ⊥) → (o : Option Place) → Sought D (X ∷ σ) known (t ∷ rest) o → byHit o ≡ some x
+  by-hit : {x : Pick} → (First (G .rules) (X ∷ σ) t → ⊥) → (o : Option Place) → Sought D d (X ∷ σ) known (t ∷ rest) o → byHit o ≡ some x
     → Choice G (X ∷ σ) (t ∷ rest) x
   unfolding byHit
   by-hit n (some p) (Sought.found h) e = subst (λ y. Choice G (X ∷ σ) (t ∷ rest) y) (some-same e) (Choice.correct n h)
@@ -104,19 +104,19 @@ module _
     → Choice G (X ∷ σ) (t ∷ rest) x
   unfolding byRest
   by-rest n true q e =
-      subst (λ y. Choice G (X ∷ σ) (t ∷ rest) y) (some-same e) (Choice.pass (D .first-says (X ∷ σ) t (token tokens) (subst T (sym q) tt)) n)
+      subst (λ y. Choice G (X ∷ σ) (t ∷ rest) y) (some-same e) (Choice.pass (d .first-says (X ∷ σ) t (token tokens) (subst T (sym q) tt)) n)
   by-rest n false q e =
-      by-hit (λ f. subst T q (D .says-first (X ∷ σ) t f)) (seek D (X ∷ σ) (t ∷ rest)) (sought D (X ∷ σ) known tokens) e
+      by-hit (λ f. subst T q (d .says-first (X ∷ σ) t f)) (seek D (X ∷ σ) (t ∷ rest)) (sought D d (X ∷ σ) known tokens) e
 
   by-rule : {x : Pick} → (X ≡ t → ⊥) → (o : Option Numbered) → RuleFound D X t (D .rules) o → byRule D (X ∷ σ) (t ∷ rest) t o ≡ some x
     → Choice G (X ∷ σ) (t ∷ rest) x
   unfolding byRule
   by-rule n (some r) (RuleFound.found i h) e =
       subst (λ y. Choice G (X ∷ σ) (t ∷ rest) y) (some-same e)
-      (Choice.expand (D .lists (r .number) X (r .right) i) (D .first-says (r .right) t (token tokens) h))
+      (Choice.expand (d .lists (r .number) X (r .right) i) (d .first-says (r .right) t (token tokens) h))
   by-rule n none (RuleFound.missing f) e =
       by-rest
-      (λ h. ⊎-elim n (λ k. f (k .0) (k .1) (D .listed (k .0) X (k .1) (k .2)) (D .says-first (k .1) t (k .3))) (first-symbol h))
+      (λ h. ⊎-elim n (λ k. f (k .0) (k .1) (d .listed (k .0) X (k .1) (k .2)) (d .says-first (k .1) t (k .3))) (first-symbol h))
       (D .first (X ∷ σ) t) refl e
 
   by-top : {x : Pick} → (b : Bool) → eqb X t ≡ b → byTop D X σ t rest b ≡ some x → Choice G (X ∷ σ) (t ∷ rest) x
@@ -126,9 +126,9 @@ module _
       by-rule (λ i. subst T q (equal-passes X t i)) (ruleFor D X t (D .rules)) (rule-found D X t (D .rules)) e
 
 -- What the tests choose is the choice.
-pub chosen : {G : Grammar} (D : Decided G) (σ rest : List ℕ) (x : Pick) → All (λ Y. SymbolCost (G .rules) (G .price) Y (D .cost Y)) σ
+pub chosen : {G : Grammar} (D : Tests) (d : Decided G D) (σ rest : List ℕ) (x : Pick) → All (λ Y. SymbolCost (G .rules) (G .price) Y (D .cost Y)) σ
   → All Terminal rest → choose D σ rest ≡ some x → Choice G σ rest x
 unfolding choose
-chosen D [] rest x a b e = absurd (none-some e)
-chosen D (X ∷ σ) [] x a b e = absurd (none-some e)
-chosen D (X ∷ σ) (t ∷ rest) x a b e = by-top D X t σ rest a b (eqb X t) refl e
+chosen D d [] rest x a b e = absurd (none-some e)
+chosen D d (X ∷ σ) [] x a b e = absurd (none-some e)
+chosen D d (X ∷ σ) (t ∷ rest) x a b e = by-top D d X t σ rest a b (eqb X t) refl e

@@ -36,16 +36,19 @@ unfoldable pub costBy : (ℕ → ℕ) → List (Option ℕ) → ℕ → Option �
 costBy price table X = cond (ltb X 64) (some (price X)) (getD table (X - 64) none)
 
 unfoldable pub sumBy : (ℕ → ℕ) → List (Option ℕ) → List ℕ → Option ℕ
+unfolding plus costBy
 sumBy price table [] = some 0
 sumBy price table (X ∷ α) = plus (costBy price table X) (sumBy price table α)
 
 -- The cheapest right side of A.
 unfoldable pub best : (ℕ → ℕ) → List (Option ℕ) → ℕ → List Rule → Option ℕ
+unfolding lower sumBy
 best price table A [] = none
 best price table A (r ∷ rs) = lower (cond (eqb A (r .left)) (sumBy price table (r .right)) none) (best price table A rs)
 
 -- The table after n rounds.
 unfoldable pub rounds : (ℕ → ℕ) → List Rule → ℕ → ℕ → List (Option ℕ)
+unfolding range best
 rounds price rs N zero = map (λ A. none) (range 64 N)
 rounds price rs N (suc n) = let table = rounds price rs N n in map (λ A. best price table A rs) (range 64 N)
 

@@ -15,23 +15,24 @@ use Rattle.theory.specs.Closed.{total}
 use Rattle.theory.specs.Leftmost.{Der, to-der, of-der}
 use Rattle.model.specs.Ruled.{Rule, RuleAt}
 
-pub record Decided (G : Grammar) : Type 0 where
-  -- the rules, in order
+-- The tests: the rules in order, whether a token is in FIRST of a list, whether a symbol is the grammar's and what it
+-- costs, and whether a cost is strictly below a token's reliability.
+pub record Tests : Type 0 where
   pub rules : List Rule
-  pub listed : (p A : ℕ) (β : List ℕ) → G .rules p A β → RuleAt rules p A β
-  pub lists : (p A : ℕ) (β : List ℕ) → RuleAt rules p A β → G .rules p A β
-  -- token t is in FIRST of the list
   pub first : List ℕ → ℕ → Bool
-  pub first-says : (α : List ℕ) (t : ℕ) → Terminal t → T (first α t) → First (G .rules) α t
-  pub says-first : (α : List ℕ) (t : ℕ) → First (G .rules) α t → T (first α t)
-  -- the cost of a symbol, where it is one of the grammar's
   pub inner : ℕ → Bool
   pub cost : ℕ → ℕ
-  pub costs : (X : ℕ) → T (inner X) → SymbolCost (G .rules) (G .price) X (cost X)
-  -- a cost is strictly below the token's reliability
   pub below : ℕ → ℕ → Bool
-  pub below-says : (c t : ℕ) → T (below c t) → G .reliable c t
-  pub says-below : (c t : ℕ) → G .reliable c t → T (below c t)
+
+-- The tests say exactly what holds of the grammar.
+pub record Decided (G : Grammar) (D : Tests) : Type 0 where
+  pub listed : (p A : ℕ) (β : List ℕ) → G .rules p A β → RuleAt (D .rules) p A β
+  pub lists : (p A : ℕ) (β : List ℕ) → RuleAt (D .rules) p A β → G .rules p A β
+  pub first-says : (α : List ℕ) (t : ℕ) → Terminal t → T (D .first α t) → First (G .rules) α t
+  pub says-first : (α : List ℕ) (t : ℕ) → First (G .rules) α t → T (D .first α t)
+  pub costs : (X : ℕ) → T (D .inner X) → SymbolCost (G .rules) (G .price) X (D .cost X)
+  pub below-says : (c t : ℕ) → T (D .below c t) → G .reliable c t
+  pub says-below : (c t : ℕ) → G .reliable c t → T (D .below c t)
 
 -- ---- Costs are determined
 

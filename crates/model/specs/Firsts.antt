@@ -33,18 +33,21 @@ say-begins null begin (Begins.past {X = X} {α = α} n b) =
 
 -- X is the token or in the set.
 unfoldable pub starts : ℕ → List ℕ → ℕ → Bool
+unfolding holds
 starts t s X = eqb X t || holds s X
 
 unfoldable firstFires : List Rule → List ℕ → ℕ → List ℕ → ℕ → Bool
+unfolding someRule begins holds starts
 firstFires rs ns t s A = someRule (λ B β. eqb A B && begins (holds ns) (starts t s) β) rs
 
 -- The nonterminals with t in their FIRST, where those of ns can be empty.
 unfoldable pub firsts : List Rule → List ℕ → ℕ → ℕ → List ℕ
-unfolding firstFires
+unfolding grown firstFires
 firsts rs ns N t = grown (firstFires rs ns t) N
 
 -- t is in FIRST of the list.
 unfoldable pub isFirst : List Rule → ℕ → List ℕ → ℕ → Bool
+unfolding begins holds nulls starts firsts
 isFirst rs N α t = begins (holds (nulls rs N)) (starts t (firsts rs (nulls rs N) N t)) α
 
 module _ (rs : List Rule) (N t : ℕ) where

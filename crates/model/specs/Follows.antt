@@ -18,6 +18,7 @@ use Rattle.model.specs.Firsts.{begins, begins-say, say-begins, starts, f
 
 -- B stands in the list with the token right behind it; e says that the token stands behind the list.
 unfoldable pub behind : (ℕ → Bool) → (ℕ → Bool) → Bool → List ℕ → ℕ → Bool
+unfolding begins every
 behind null begin e [] B = false
 behind null begin e (X ∷ α) B = (eqb X B && (begins null begin α || (every null α && e))) || behind null begin e α B
 
@@ -65,15 +66,17 @@ followed null begin e Behind E (X ∷ α) g f =
         (both (eqb X X) (begins null begin α || (every null α && e)) (equal-passes X X refl) h)
 
 unfoldable followFires : List Rule → List ℕ → List ℕ → ℕ → List ℕ → List ℕ → ℕ → Bool
+unfolding behind holds starts someRule
 followFires rs ns fs t σ s B =
     behind (holds ns) (starts t fs) false σ B || someRule (λ A β. behind (holds ns) (starts t fs) (holds s A) β B) rs
 
 -- The nonterminals with t in their FOLLOW, where σ is what a run begins with.
 unfoldable pub follows : List Rule → List ℕ → List ℕ → ℕ → ℕ → List ℕ → List ℕ
-unfolding followFires
+unfolding grown followFires
 follows rs ns fs N t σ = grown (followFires rs ns fs t σ) N
 
 unfoldable pub isFollow : List Rule → ℕ → List ℕ → ℕ → ℕ → Bool
+unfolding holds follows nulls firsts
 isFollow rs N σ t B = holds (follows rs (nulls rs N) (firsts rs (nulls rs N) N t) N t σ) B
 
 module _ (rs : List Rule) (N t : ℕ) (σ : List ℕ) (l : Terminal t) where
@@ -145,6 +148,7 @@ module _ (rs : List Rule) (N t : ℕ) (σ : List ℕ) (l : Terminal t) where
 
   -- A terminal, or followed by t by the test.
   unfoldable settled : ℕ → Bool
+  unfolding isFollow
   settled X = ltb X 64 || isFollow rs N σ t X
 
   settled-if : (X : ℕ) → (X < 64) ⊎ ((64 ≤ X) × (X < 64 + N)) → (64 ≤ X → X < 64 + N → T (isFollow rs N σ t X)) → T (settled X)

@@ -48,11 +48,11 @@ with-end {rs} {A} r =
 -- ---- The tests
 
 unfoldable pub allReachable : List ℕ → Bool
-unfolding isReachable rulesOf range every
+unfolding every isReachable rulesOf range
 allReachable ws = every (isReachable (rulesOf ws) (nonterminalCount ws)) (range 64 (nonterminalCount ws))
 
 unfoldable pub allProductive : List ℕ → Bool
-unfolding isProductive rulesOf range every
+unfolding every isProductive rulesOf range
 allProductive ws = every (isProductive (rulesOf ws) (nonterminalCount ws)) (range 64 (nonterminalCount ws))
 
 -- The costs of the nonterminals.
@@ -65,14 +65,14 @@ isKnown none = false
 isKnown (some c) = true
 
 unfoldable pub costsReady : List ℕ → Bool
-unfolding isSettled tableOf rulesOf costBy isKnown range every
+unfolding tableOf isSettled rulesOf every isKnown costBy range
 costsReady ws =
     let table = tableOf ws in
     isSettled (insertCost ws) (rulesOf ws) table
     && every (λ A. isKnown (costBy (insertCost ws) table A)) (range 64 (nonterminalCount ws))
 
 unfoldable pub allAffordable : List ℕ → Bool
-unfolding costOf tableOf range every
+unfolding tableOf every costOf range
 allAffordable ws =
     let table = tableOf ws in every (λ A. leb (costOf (insertCost ws) table A) 60000) (range 64 (nonterminalCount ws))
 
@@ -277,3 +277,24 @@ module _ (ws : List ℕ) (o : Option Refusal) where
   pub judged : verdictOf ws ≡ some o → Verdict ws o
   unfolding verdictOf
   judged e = judge-shape (isShaped ws) refl e
+
+-- An accepted grammar's costs are ready.
+refused-not : {r : Refusal} → some (some r) ≡ some none → ⊥
+refused-not e = none-some (sym (some-same e))
+
+pub accepted-ready : (ws : List ℕ) → verdictOf ws ≡ some none → T (costsReady ws)
+unfolding verdictOf byShape byReachable byProductive byReady
+accepted-ready ws e = by-shape (isShaped ws) e
+  where
+    by-ready : (b : Bool) → costsReady ws ≡ b → byReady ws b ≡ some none → T (costsReady ws)
+    by-ready true q e = subst T (sym q) tt
+    by-ready false q e = absurd (none-some e)
+    by-productive : (b : Bool) → byProductive ws b ≡ some none → T (costsReady ws)
+    by-productive true e = by-ready (costsReady ws) refl e
+    by-productive false e = absurd (refused-not e)
+    by-reachable : (b : Bool) → byReachable ws b ≡ some none → T (costsReady ws)
+    by-reachable true e = by-productive (allProductive ws) e
+    by-reachable false e = absurd (refused-not e)
+    by-shape : (b : Bool) → byShape ws b ≡ some none → T (costsReady ws)
+    by-shape true e = by-reachable (allReachable ws) e
+    by-shape false e = absurd (refused-not e)

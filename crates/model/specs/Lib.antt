@@ -18,3 +18,5 @@ pub mod Wording
 pub mod Predicts
 pub mod Judge
 pub mod Words
+pub mod Parses
+pub mod Cycles

@@ -22,7 +22,7 @@ use Rattle.model.specs.Reflects.{Reflects, each-test, iff-test}
 
 -- Token t is in the predict set of the rule from A to β, by the three sets.
 unfoldable pub isPredict : List ℕ → List ℕ → List ℕ → ℕ → ℕ → List ℕ → Bool
-unfolding begins starts holds every
+unfolding begins holds starts every
 isPredict ns fs os t A β = begins (holds ns) (starts t fs) β || (every (holds ns) β && holds os A)
 
 -- No two rules of one left side pass f.
@@ -121,7 +121,7 @@ sharedFree rs N σ t =
     clashFree (isPredict ns fs os t) rs
 
 unfoldable pub isNoneShared : List Rule → ℕ → ℕ → List ℕ → Bool
-unfolding sharedFree range every
+unfolding every sharedFree range
 isNoneShared rs bound N σ = every (sharedFree rs N σ) (range 0 bound)
 
 module _ (rs : List Rule) (bound N : ℕ) (σ : List ℕ) (ranged : Ranged rs bound N) (inner : All (Inner N) σ)

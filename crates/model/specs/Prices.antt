@@ -27,6 +27,7 @@ atMost (some a) (some b) = leb a b
 
 -- No right side costs less than its left side.
 unfoldable pub isSettled : (ℕ → ℕ) → List Rule → List (Option ℕ) → Bool
+unfolding everyRule atMost costBy sumBy
 isSettled price rs table = everyRule (λ A β. atMost (costBy price table A) (sumBy price table β)) rs
 
 -- A known cost as a number.
@@ -35,6 +36,7 @@ known none = 0
 known (some c) = c
 
 unfoldable pub costOf : (ℕ → ℕ) → List (Option ℕ) → ℕ → ℕ
+unfolding known costBy
 costOf price table X = known (costBy price table X)
 
 at-most : (a b : Option ℕ) → T (atMost a b) → (x y : ℕ) × (a ≡ some x) × (b ≡ some y) × (x ≤ y)

@@ -44,11 +44,12 @@ picks f (x ∷ u) = go (f x) refl (picks f u)
 
 -- A number that fires and is not yet held.
 unfoldable fresh : (List ℕ → ℕ → Bool) → List ℕ → ℕ → Bool
+unfolding holds
 fresh fires s x = not (holds s x) && fires s x
 
 -- The set after n more rounds: each adds a number that fires.
 unfoldable pub saturate : (List ℕ → ℕ → Bool) → List ℕ → ℕ → List ℕ → List ℕ
-unfolding fresh
+unfolding pick fresh
 saturate fires u zero s = s
 saturate fires u (suc n) s = elim (pick (fresh fires s) u) [ none ↦ s | some x ↦ saturate fires u n (x ∷ s) ]
 

@@ -16,10 +16,10 @@ use Rattle.grammar.specs.Run.{Plausible, Hit}
 use Rattle.theory.specs.Closed.{total}
 use Rattle.model.specs.Tests.{both, left-of, right-of, every, every-all}
 use Rattle.model.specs.Sets.{all-map}
-use Rattle.model.specs.Decided.{Decided, list-cost, list-cost-is}
+use Rattle.model.specs.Decided.{Tests, Decided, list-cost, list-cost-is}
 
 -- As `Plausible`, with the cost as a sum over the symbols above, and a cost `paid` before them.
-pub record Suits {G : Grammar} (D : Decided G) (σ : List ℕ) (paid t i : ℕ) : Type 0 where
+pub record Suits (G : Grammar) (D : Tests) (σ : List ℕ) (paid t i : ℕ) : Type 0 where
   pub within : i < length σ
   pub first : First (G .rules) (getD σ i END ∷ []) t
   pub below : G .reliable (paid + total (D .cost) (take i σ)) t
@@ -29,64 +29,64 @@ later none = none
 later (some i) = some (suc i)
 
 -- The least i that suits token t.
-unfoldable pub fit : {G : Grammar} → Decided G → ℕ → List ℕ → ℕ → Option ℕ
+unfoldable pub fit : Tests → ℕ → List ℕ → ℕ → Option ℕ
 unfolding later
 fit D t [] paid = none
 fit D t (X ∷ σ) paid = cond (D .first (X ∷ []) t && D .below paid t) (some 0) (later (fit D t σ (paid + D .cost X)))
 
-pub data Fitted {G : Grammar} (D : Decided G) (σ : List ℕ) (paid t : ℕ) : Option ℕ → Type 0 where
-  fits : {i : ℕ} → Suits D σ paid t i → ((k : ℕ) → k < i → Suits D σ paid t k → ⊥) → Fitted D σ paid t (some i)
-  unfit : ((k : ℕ) → Suits D σ paid t k → ⊥) → Fitted D σ paid t none
+pub data Fitted (G : Grammar) (D : Tests) (σ : List ℕ) (paid t : ℕ) : Option ℕ → Type 0 where
+  fits : {i : ℕ} → Suits G D σ paid t i → ((k : ℕ) → k < i → Suits G D σ paid t k → ⊥) → Fitted G D σ paid t (some i)
+  unfit : ((k : ℕ) → Suits G D σ paid t k → ⊥) → Fitted G D σ paid t none
 
-module _ {G : Grammar} (D : Decided G) (t : ℕ) (l : Terminal t) where
+module _ {G : Grammar} (D : Tests) (d : Decided G D) (t : ℕ) (l : Terminal t) where
   -- What suits below the top suits the rest, with the top paid for.
-  under : (X : ℕ) (σ : List ℕ) (paid k : ℕ) → Suits D (X ∷ σ) paid t (suc k) → Suits D σ (paid + D .cost X) t k
+  under : (X : ℕ) (σ : List ℕ) (paid k : ℕ) → Suits G D (X ∷ σ) paid t (suc k) → Suits G D σ (paid + D .cost X) t k
   unfolding total
   under X σ paid k s =
       record { within = omega (arith, s .within); first = s .first; below = subst (λ c. G .reliable c t) (omega arith) (s .below) }
 
-  over : (X : ℕ) (σ : List ℕ) (paid k : ℕ) → Suits D σ (paid + D .cost X) t k → Suits D (X ∷ σ) paid t (suc k)
+  over : (X : ℕ) (σ : List ℕ) (paid k : ℕ) → Suits G D σ (paid + D .cost X) t k → Suits G D (X ∷ σ) paid t (suc k)
   unfolding total
   over X σ paid k s =
       record { within = omega (arith, s .within); first = s .first; below = subst (λ c. G .reliable c t) (omega arith) (s .below) }
 
   -- The top does not suit: what does is below it.
-  passed-over : (X : ℕ) (σ : List ℕ) (paid : ℕ) {o : Option ℕ} → (Suits D (X ∷ σ) paid t 0 → ⊥) → Fitted D σ (paid + D .cost X) t o
-    → Fitted D (X ∷ σ) paid t (later o)
+  passed-over : (X : ℕ) (σ : List ℕ) (paid : ℕ) {o : Option ℕ} → (Suits G D (X ∷ σ) paid t 0 → ⊥) → Fitted G D σ (paid + D .cost X) t o
+    → Fitted G D (X ∷ σ) paid t (later o)
   unfolding later
   passed-over X σ paid n (Fitted.fits {i = i} s least) = Fitted.fits (over X σ paid i s) go
     where
-      go : (k : ℕ) → k < suc i → Suits D (X ∷ σ) paid t k → ⊥
+      go : (k : ℕ) → k < suc i → Suits G D (X ∷ σ) paid t k → ⊥
       go zero h u = n u
       go (suc k) h u = least k (omega arith) (under X σ paid k u)
   passed-over X σ paid n (Fitted.unfit f) = Fitted.unfit go
     where
-      go : (k : ℕ) → Suits D (X ∷ σ) paid t k → ⊥
+      go : (k : ℕ) → Suits G D (X ∷ σ) paid t k → ⊥
       go zero u = n u
       go (suc k) u = f k (under X σ paid k u)
 
-  pub fitted : (σ : List ℕ) (paid : ℕ) → Fitted D σ paid t (fit D t σ paid)
+  pub fitted : (σ : List ℕ) (paid : ℕ) → Fitted G D σ paid t (fit D t σ paid)
   unfolding fit total
   fitted [] paid = Fitted.unfit (λ k s. let h = s .within in omega arith)
   fitted (X ∷ σ) paid = go (D .first (X ∷ []) t && D .below paid t) refl (fitted σ (paid + D .cost X))
     where
-      go : (b : Bool) → (D .first (X ∷ []) t && D .below paid t) ≡ b → Fitted D σ (paid + D .cost X) t (fit D t σ (paid + D .cost X))
-        → Fitted D (X ∷ σ) paid t (cond b (some 0) (later (fit D t σ (paid + D .cost X))))
+      go : (b : Bool) → (D .first (X ∷ []) t && D .below paid t) ≡ b → Fitted G D σ (paid + D .cost X) t (fit D t σ (paid + D .cost X))
+        → Fitted G D (X ∷ σ) paid t (cond b (some 0) (later (fit D t σ (paid + D .cost X))))
       go true e h =
           let k : T (D .first (X ∷ []) t && D .below paid t) = subst T (sym e) tt in
           Fitted.fits {i = 0}
           (record {
               within = omega arith;
-              first = D .first-says (X ∷ []) t l (left-of (D .first (X ∷ []) t) (D .below paid t) k);
-              below = subst (λ c. G .reliable c t) (omega arith) (D .below-says paid t (right-of (D .first (X ∷ []) t) (D .below paid t) k))
+              first = d .first-says (X ∷ []) t l (left-of (D .first (X ∷ []) t) (D .below paid t) k);
+              below = subst (λ c. G .reliable c t) (omega arith) (d .below-says paid t (right-of (D .first (X ∷ []) t) (D .below paid t) k))
           })
           (λ m i s. omega arith)
       go false e h =
           passed-over X σ paid
           (λ s.
             subst T e
-            (both (D .first (X ∷ []) t) (D .below paid t) (D .says-first (X ∷ []) t (s .first))
-            (D .says-below paid t (subst (λ c. G .reliable c t) (omega arith) (s .below)))))
+            (both (D .first (X ∷ []) t) (D .below paid t) (d .says-first (X ∷ []) t (s .first))
+            (d .says-below paid t (subst (λ c. G .reliable c t) (omega arith) (s .below)))))
           h
 
 -- ---- The least r
@@ -100,19 +100,19 @@ sooner none none = none
 sooner none (some p) = some (record { deleted = suc (p .deleted); inserted = p .inserted })
 sooner (some i) o = some (record { deleted = 0; inserted = i })
 
-unfoldable pub seek : {G : Grammar} → Decided G → List ℕ → List ℕ → Option Place
-unfolding sooner
+unfoldable pub seek : Tests → List ℕ → List ℕ → Option Place
+unfolding sooner fit
 seek D σ [] = none
 seek D σ (t ∷ rest) = sooner (fit D t σ 0) (seek D σ rest)
 
-module _ {G : Grammar} (D : Decided G) (σ : List ℕ) (known : All (λ X. SymbolCost (G .rules) (G .price) X (D .cost X)) σ) where
+module _ {G : Grammar} (D : Tests) (d : Decided G D) (σ : List ℕ) (known : All (λ X. SymbolCost (G .rules) (G .price) X (D .cost X)) σ) where
   all-take : {P : ℕ → Type 0} (i : ℕ) {α : List ℕ} → All P α → All P (take i α)
   all-take zero a = All.nothing
   all-take (suc i) All.nothing = All.nothing
   all-take (suc i) (All.also h a) = All.also h (all-take i a)
 
   -- What suits is plausible, and what is plausible suits.
-  plausible : {t i : ℕ} → Suits D σ 0 t i → Plausible G σ t i
+  plausible : {t i : ℕ} → Suits G D σ 0 t i → Plausible G σ t i
   plausible {t} {i} s =
       record {
           within = s .within;
@@ -122,7 +122,7 @@ module _ {G : Grammar} (D : Decided G) (σ : List ℕ) (known : All (λ X. Symbo
           below = subst (λ c. G .reliable c t) (omega arith) (s .below)
       }
 
-  suits : {t i : ℕ} → Plausible G σ t i → Suits D σ 0 t i
+  suits : {t i : ℕ} → Plausible G σ t i → Suits G D σ 0 t i
   suits {t} {i} p =
       record {
           within = p .within;
@@ -130,7 +130,7 @@ module _ {G : Grammar} (D : Decided G) (σ : List ℕ) (known : All (λ X. Symbo
           below = subst (λ c. G .reliable c t) (omega (arith, list-cost-is (all-take i known) (p .costs))) (p .below)
       }
 
-  hit-here : {t i : ℕ} {rest : List ℕ} → Suits D σ 0 t i → ((k : ℕ) → k < i → Suits D σ 0 t k → ⊥) → Hit G σ (t ∷ rest) 0 i
+  hit-here : {t i : ℕ} {rest : List ℕ} → Suits G D σ 0 t i → ((k : ℕ) → k < i → Suits G D σ 0 t k → ⊥) → Hit G σ (t ∷ rest) 0 i
   hit-here s least =
       record {
           within = omega arith;
@@ -139,7 +139,7 @@ module _ {G : Grammar} (D : Decided G) (σ : List ℕ) (known : All (λ X. Symbo
           least-i = λ k l p. least k l (suits p)
       }
 
-  hit-later : {t j i : ℕ} {rest : List ℕ} → ((k : ℕ) → Suits D σ 0 t k → ⊥) → Hit G σ rest j i → Hit G σ (t ∷ rest) (suc j) i
+  hit-later : {t j i : ℕ} {rest : List ℕ} → ((k : ℕ) → Suits G D σ 0 t k → ⊥) → Hit G σ rest j i → Hit G σ (t ∷ rest) (suc j) i
   hit-later {t} {j} {rest = rest} n h =
       record { within = omega (arith, h .within); plausible = h .plausible; least-r = go; least-i = h .least-i }
     where
@@ -151,7 +151,7 @@ module _ {G : Grammar} (D : Decided G) (σ : List ℕ) (known : All (λ X. Symbo
     found : {p : Place} → Hit G σ rest (p .deleted) (p .inserted) → Sought rest (some p)
     lost : Sought rest none
 
-  next-one : {t : ℕ} {rest : List ℕ} {o : Option ℕ} {q : Option Place} → Fitted D σ 0 t o → Sought rest q → Sought (t ∷ rest) (sooner o q)
+  next-one : {t : ℕ} {rest : List ℕ} {o : Option ℕ} {q : Option Place} → Fitted G D σ 0 t o → Sought rest q → Sought (t ∷ rest) (sooner o q)
   unfolding sooner
   next-one (Fitted.fits s least) q = Sought.found (hit-here s least)
   next-one (Fitted.unfit n) (Sought.found h) = Sought.found (hit-later n h)
@@ -161,4 +161,4 @@ module _ {G : Grammar} (D : Decided G) (σ : List ℕ) (known : All (λ X. Symbo
   pub sought : {rest : List ℕ} → All Terminal rest → Sought rest (seek D σ rest)
   unfolding seek
   sought All.nothing = Sought.lost
-  sought (All.also {x = t} l a) = next-one (fitted D t l σ 0) (sought a)
+  sought (All.also {x = t} l a) = next-one (fitted D d t l σ 0) (sought a)

@@ -32,6 +32,7 @@ all-by (x ∷ l) f = All.also (f x (List·Memᴰ·head refl)) (all-by l (λ y m.
 
 -- The nonterminals, from no member on, after as many rounds as there are.
 unfoldable pub grown : (List ℕ → ℕ → Bool) → ℕ → List ℕ
+unfolding saturate range
 grown fires N = saturate fires (range 64 N) N []
 
 -- What fires at the grown set is in it.
@@ -51,13 +52,15 @@ grown-sound fires P j N = saturate-sound fires (range 64 N) P (λ s x a m. j s x
 
 -- X is in the base or in the set.
 unfoldable pub has : (ℕ → Bool) → List ℕ → ℕ → Bool
+unfolding holds
 has base s X = base X || holds s X
 
 unfoldable upFires : (ℕ → Bool) → List Rule → List ℕ → ℕ → Bool
+unfolding someRule every has
 upFires base rs s A = someRule (λ B β. eqb A B && every (has base s) β) rs
 
 unfoldable pub ups : (ℕ → Bool) → List Rule → ℕ → List ℕ
-unfolding upFires
+unfolding grown upFires
 ups base rs N = grown (upFires base rs) N
 
 module _ (base : ℕ → Bool) (rs : List Rule) (N : ℕ) where
@@ -92,7 +95,7 @@ unfoldable none-yet : ℕ → Bool
 none-yet X = false
 
 unfoldable pub nulls : List Rule → ℕ → List ℕ
-unfolding none-yet
+unfolding ups none-yet
 nulls rs N = ups none-yet rs N
 
 -- A list of which each member can be empty can be.
@@ -123,7 +126,7 @@ unfoldable isTerminal : ℕ → Bool
 isTerminal X = ltb X 64
 
 unfoldable pub isProductive : List Rule → ℕ → ℕ → Bool
-unfolding isTerminal
+unfolding has isTerminal ups
 isProductive rs N X = has isTerminal (ups isTerminal rs N) X
 
 -- A list of which each member derives a terminal string does.
@@ -164,10 +167,11 @@ module _ (rs : List Rule) (N : ℕ) where
 -- ---- Reachable from START
 
 unfoldable reachFires : List Rule → List ℕ → ℕ → Bool
+unfolding someRule holds
 reachFires rs s B = eqb B START || someRule (λ A β. holds s A && holds β B) rs
 
 unfoldable pub isReachable : List Rule → ℕ → ℕ → Bool
-unfolding reachFires
+unfolding holds grown reachFires
 isReachable rs N B = holds (grown (reachFires rs) N) B
 
 -- A list with a member in it, split there.
@@ -217,6 +221,7 @@ module _ (rs : List Rule) (N : ℕ) where
 
   -- A terminal, or reachable by the test.
   unfoldable known : ℕ → Bool
+  unfolding isReachable
   known X = ltb X 64 || isReachable rs N X
 
   pub reachable-complete : (t : ℕ) → Ranged rs t N → 1 ≤ N → (B : ℕ) → 64 ≤ B → Reachable (RuleAt rs) (START ∷ []) B → T (isReachable rs N B)

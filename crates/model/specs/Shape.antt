@@ -56,7 +56,7 @@ terminal-test ws t =
     (λ r. ((r .cost-low, r .cost-high), r .reliability-high))
 
 unfoldable pub isRuleWords : List ℕ → ℕ → Bool
-unfolding isSymbol range every
+unfolding rulePlace every isSymbol range
 isRuleWords ws p =
     (ltb (word ws (rulePlace ws p)) (nonterminalCount ws) && leb (rightSize ws p) 8)
     && every (λ i. isSymbol (terminalCount ws) (nonterminalCount ws) (word ws (rulePlace ws p + 2 + i))) (range 0 (rightSize ws p))
@@ -78,7 +78,7 @@ isHeader ws =
     && ((leb 1 (ruleCount ws) && leb (ruleCount ws) 256) && (areMarks (terminalCount ws) (opening ws) (closing ws) && leb (tickUnit ws) 1))
 
 unfoldable pub isShaped : List ℕ → Bool
-unfolding isHeader isTerminalWords isRuleWords rulePlace range every
+unfolding isHeader every isTerminalWords range isRuleWords rulePlace
 isShaped ws =
     (isHeader ws && (eqb (insertCost ws 0) 0 && eqb (reliability ws 0) 0))
     && ((every (isTerminalWords ws) (range 1 (terminalCount ws - 1)) && every (isRuleWords ws) (range 0 (ruleCount ws)))

@@ -16,7 +16,7 @@ use Rattle.model.specs.Firsts.{begins, starts, firsts, isFirst, first-so
 use Rattle.model.specs.Prices.{costOf, terminal-cost}
 use Rattle.model.specs.Judge.{tableOf, costsReady, ready-cost}
 use Rattle.model.specs.Wording.{rulesOf, rule-listed, listed-rule, ranged, first-within}
-use Rattle.model.specs.Decided.{Decided}
+use Rattle.model.specs.Decided.{Tests, Decided}
 
 -- A symbol of the grammar's.
 unfoldable pub isInner : ℕ → ℕ → Bool
@@ -26,8 +26,24 @@ isInner N X = ltb X 64 || (leb 64 X && ltb X (64 + N))
 unfoldable pub isBelow : List ℕ → ℕ → ℕ → Bool
 isBelow ws c t = eqb t END || ltb c (reliability ws t)
 
+-- The tests of the words' grammar.
+unfoldable pub testsOf : List ℕ → Tests
+unfolding rulesOf nulls tableOf begins holds starts firsts isInner costOf isBelow
+testsOf ws =
+    let rs = rulesOf ws in
+    let N = nonterminalCount ws in
+    let ns = nulls rs N in
+    let table = tableOf ws in
+    record {
+        rules = rs;
+        first = λ α t. begins (holds ns) (starts t (firsts rs ns N t)) α;
+        inner = isInner N;
+        cost = costOf (insertCost ws) table;
+        below = isBelow ws
+    }
+
 module _ (ws : List ℕ) (s : Shaped ws) (ready : T (costsReady ws)) where
-  pub inner-cost : (X : ℕ) → T (isInner (nonterminalCount ws) X)
+  inner-cost : (X : ℕ) → T (isInner (nonterminalCount ws) X)
     → SymbolCost (RuleOf ws) (insertCost ws) X (costOf (insertCost ws) (tableOf ws) X)
   unfolding isInner
   inner-cost X h =
@@ -40,36 +56,29 @@ module _ (ws : List ℕ) (s : Shaped ws) (ready : T (costsReady ws)) where
         SymbolCost.nonterminal l (ready-cost ws s ready X l m))
       (one-of (ltb X 64) (leb 64 X && ltb X (64 + N)) h)
 
-  pub below-reliable : (c t : ℕ) → T (isBelow ws c t) → Reliable ws c t
+  below-reliable : (c t : ℕ) → T (isBelow ws c t) → Reliable ws c t
   unfolding isBelow
   below-reliable c t h =
       ⊎-elim (λ k. Reliable.unlimited (eqb→eq t END k)) (λ k. Reliable.limited (ltb→lt c (reliability ws t) k))
       (one-of (eqb t END) (ltb c (reliability ws t)) h)
 
-  pub reliable-below : (c t : ℕ) → Reliable ws c t → T (isBelow ws c t)
+  reliable-below : (c t : ℕ) → Reliable ws c t → T (isBelow ws c t)
   unfolding isBelow
   reliable-below c t (Reliable.unlimited e) = or-left (eqb t END) (ltb c (reliability ws t)) (equal-passes t END e)
   reliable-below c t (Reliable.limited h) = or-right (eqb t END) (ltb c (reliability ws t)) (lt→ltb c (reliability ws t) h)
 
-  unfoldable pub decided : Decided (grammarOf ws)
-  unfolding isFirst isInner isBelow rulesOf nulls firsts begins starts holds tableOf costOf
+  pub decided : Decided (grammarOf ws) (testsOf ws)
+  unfolding testsOf isFirst
   decided =
       let rs = rulesOf ws in
       let N = nonterminalCount ws in
-      let ns = nulls rs N in
-      let table = tableOf ws in
       record {
-          rules = rs;
           listed = rule-listed ws;
           lists = listed-rule ws;
-          first = λ α t. begins (holds ns) (starts t (firsts rs ns N t)) α;
           first-says = λ α t l h. first-within (RuleAt rs) (RuleOf ws) (listed-rule ws) (first-sound rs N t l α h);
           says-first = λ α t f.
             first-complete rs N t (terminalCount ws) (ranged ws s) (first-within (RuleOf ws) (RuleAt rs) (rule-listed ws) f);
-          inner = isInner N;
-          cost = costOf (insertCost ws) table;
           costs = inner-cost;
-          below = isBelow ws;
           below-says = below-reliable;
           says-below = reliable-below
       }
