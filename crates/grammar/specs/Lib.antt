@@ -9,3 +9,7 @@ pub mod Moves
 pub mod Run
 pub mod Pace
 pub mod Refusals
+-- What follows from them. Nothing above uses anything of these.
+pub mod theory
+pub mod model
+pub mod cases

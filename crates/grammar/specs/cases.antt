@@ -1,0 +1,3 @@
+-- Document 01's twelve cases: one list, one theorem.
+pub mod Cases
+pub mod Twelve

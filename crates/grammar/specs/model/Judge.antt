@@ -1,0 +1,303 @@
+-- The verdict on grammar words, by tests in document 01's order: where the model gives one, it is the definitions'.
+use Prim.Native.Nat.{ℕ, zero, suc, _+_, _-_, _≤_, _<_}
+use mathlib.Core.Path.{_≡_, refl, sym, ap, _∙_, subst}
+use mathlib.Core.Bool.{Bool, true, false, _&&_}
+use mathlib.Core.Option.{Option, none, some}
+use mathlib.Core.List.{List, [], _∷_, _++_, append-assoc}
+use mathlib.Core.Logic.{_⊎_, inl, inr, ⊎-elim}
+use native.Mathlib.Omega.{arith}
+use lib.Dec.{T, leb}
+use Rattle.grammar.specs.Words.{START, END, Shaped, terminalCount, nonterminalCount, insertCost}
+use Rattle.grammar.specs.Derivation.{All, Reachable, Productive, NoneShared}
+use Rattle.grammar.specs.Cost.{Cheapest}
+use Rattle.grammar.specs.Grammar.{RuleOf, Affordable, Meets, Verdict}
+use Rattle.grammar.specs.Refusals.{Lowest}
+use Rattle.grammar.specs.declared.Refusal.{Refusal}
+use Rattle.grammar.specs.declared.Refusal.the-variants.{BadShape, Unreachable, NoString, TooCostly, SharedPredict}
+use Rattle.grammar.specs.theory.Leftmost.{Der, der-refl, der-append, to-der, of-der}
+use Rattle.grammar.specs.theory.Pigeonhole.{range, range-member}
+use Rattle.grammar.specs.model.Tests.{none-some, some-same, both, left-of, right-of, every, every-all}
+use Rattle.grammar.specs.model.Reflects.{Reflects, le-test, each-in-test, iff-test}
+use Rattle.grammar.specs.model.Ruled.{Rule, RuleAt, Ranged}
+use Rattle.grammar.specs.model.Sets.{all-at, isProductive, productive-sound, productive-complete, isReachable, reachable-sound, reachable-complete}
+use Rattle.grammar.specs.model.Costs.{rounds, costBy}
+use Rattle.grammar.specs.model.Prices.{isSettled, costOf, cost-known, cheapest, cheapest-unique}
+use Rattle.grammar.specs.model.Predicts.{Inner, isNoneShared, none-shared-test}
+use Rattle.grammar.specs.model.Shape.{isShaped, shape-test}
+use Rattle.grammar.specs.model.Wording.{rulesOf, rule-listed, listed-rule, ranged, reachable-within, productive-within, predict-within, cheapest-within}
+
+-- What holds of each nonterminal, by its symbol and by its number.
+symbols-numbers : {b : Bool} (N : ℕ) (P : ℕ → Type 0) → Reflects b ((A : ℕ) → 64 ≤ A → A < 64 + N → P A)
+    → Reflects b ((k : ℕ) → k < N → P (64 + k))
+symbols-numbers N P r =
+    iff-test r
+    (λ f k h. f (64 + k) (omega arith) (omega arith))
+    (λ f A l h. let e : 64 + (A - 64) ≡ A = omega arith in subst P e (f (A - 64) (omega arith)))
+
+-- What is reachable from START is reachable from START END.
+with-end : {rs : List Rule} {A : ℕ} → Reachable (RuleAt rs) (START ∷ []) A → Reachable (RuleAt rs) (START ∷ END ∷ []) A
+with-end {rs} {A} r =
+    record {
+      front = r .front;
+      rest = r .rest ++ (END ∷ []);
+      stands = of-der _
+          (subst (λ w. Der (RuleAt rs) (START ∷ END ∷ []) w) (append-assoc (r .front) (A ∷ r .rest) (END ∷ []))
+          (der-append _ (to-der _ (r .stands)) (der-refl _ (END ∷ []))));
+    }
+
+-- ---- The tests
+
+unfoldable pub allReachable : List ℕ → Bool
+unfolding every isReachable rulesOf range
+allReachable ws = every (isReachable (rulesOf ws) (nonterminalCount ws)) (range 64 (nonterminalCount ws))
+
+unfoldable pub allProductive : List ℕ → Bool
+unfolding every isProductive rulesOf range
+allProductive ws = every (isProductive (rulesOf ws) (nonterminalCount ws)) (range 64 (nonterminalCount ws))
+
+-- The costs of the nonterminals.
+unfoldable pub tableOf : List ℕ → List (Option ℕ)
+unfolding rounds rulesOf
+tableOf ws = rounds (insertCost ws) (rulesOf ws) (nonterminalCount ws) (nonterminalCount ws)
+
+unfoldable pub isKnown : Option ℕ → Bool
+isKnown none = false
+isKnown (some c) = true
+
+unfoldable pub costsReady : List ℕ → Bool
+unfolding tableOf isSettled rulesOf every isKnown costBy range
+costsReady ws =
+    let table = tableOf ws in
+    isSettled (insertCost ws) (rulesOf ws) table
+    && every (λ A. isKnown (costBy (insertCost ws) table A)) (range 64 (nonterminalCount ws))
+
+unfoldable pub allAffordable : List ℕ → Bool
+unfolding tableOf every costOf range
+allAffordable ws =
+    let table = tableOf ws in every (λ A. leb (costOf (insertCost ws) table A) 60000) (range 64 (nonterminalCount ws))
+
+unfoldable pub noneShared : List ℕ → Bool
+unfolding isNoneShared rulesOf
+noneShared ws = isNoneShared (rulesOf ws) (terminalCount ws) (nonterminalCount ws) (START ∷ END ∷ [])
+
+-- ---- Each test says exactly whether its condition is met
+
+module _ (ws : List ℕ) (s : Shaped ws) where
+  -- The words' rules as a list, and back.
+  to : (p A : ℕ) (β : List ℕ) → RuleOf ws p A β → RuleAt (rulesOf ws) p A β
+  to = rule-listed ws
+
+  from : (p A : ℕ) (β : List ℕ) → RuleAt (rulesOf ws) p A β → RuleOf ws p A β
+  from = listed-rule ws
+
+  reachable-test : Reflects (allReachable ws)
+      ((k : ℕ) → k < nonterminalCount ws → Reachable (RuleOf ws) (START ∷ []) (64 + k))
+  unfolding allReachable
+  reachable-test =
+      let rs = rulesOf ws in
+      let N = nonterminalCount ws in
+      symbols-numbers N (Reachable (RuleOf ws) (START ∷ []))
+      (each-in-test 64 N
+      (λ A l h.
+      record {
+        says = λ k. reachable-within (RuleAt rs) (RuleOf ws) from (reachable-sound rs N A k);
+        said = λ r.
+            reachable-complete rs N (terminalCount ws) (ranged ws s) (s .nonterminals-low) A l
+            (reachable-within (RuleOf ws) (RuleAt rs) to r);
+      }))
+
+  productive-test : Reflects (allProductive ws) ((k : ℕ) → k < nonterminalCount ws → Productive (RuleOf ws) (64 + k))
+  unfolding allProductive
+  productive-test =
+      let rs = rulesOf ws in
+      let N = nonterminalCount ws in
+      symbols-numbers N (Productive (RuleOf ws))
+      (each-in-test 64 N
+      (λ A l h.
+      record {
+        says = λ k. productive-within (RuleAt rs) (RuleOf ws) from (productive-sound rs N A k);
+        said = λ r. productive-complete rs N (terminalCount ws) (ranged ws s) A (productive-within (RuleOf ws) (RuleAt rs) to r);
+      }))
+
+  known-cost : (o : Option ℕ) → T (isKnown o) → (c : ℕ) × (o ≡ some c)
+  unfolding isKnown
+  known-cost (some c) h = (c, refl)
+
+  -- Where the table is ready, each nonterminal has its cost there.
+  pub ready-cost : T (costsReady ws) → (A : ℕ) → 64 ≤ A → A < 64 + nonterminalCount ws
+      → Cheapest (RuleOf ws) (insertCost ws) A (costOf (insertCost ws) (tableOf ws) A)
+  unfolding costsReady tableOf
+  ready-cost r A l h =
+      let rs = rulesOf ws in
+      let N = nonterminalCount ws in
+      let price = insertCost ws in
+      let table = tableOf ws in
+      let settled = left-of (isSettled price rs table) (every (λ B. isKnown (costBy price table B)) (range 64 N)) r in
+      let all = right-of (isSettled price rs table) (every (λ B. isKnown (costBy price table B)) (range 64 N)) r in
+      let k = known-cost (costBy price table A)
+      (all-at (every-all (λ B. isKnown (costBy price table B)) (range 64 N) all) (range-member 64 N A l h)) in
+      subst (Cheapest (RuleOf ws) price A) (sym (cost-known price table A (k .0) (k .1)))
+      (cheapest-within (RuleAt rs) (RuleOf ws) from to (cheapest rs price N N settled A (k .0) (k .1)))
+
+  affordable-test : T (costsReady ws) → Reflects (allAffordable ws) ((k : ℕ) → k < nonterminalCount ws → Affordable ws (64 + k))
+  unfolding allAffordable
+  affordable-test r =
+      symbols-numbers (nonterminalCount ws) (Affordable ws)
+      (each-in-test 64 (nonterminalCount ws)
+      (λ A l h.
+      iff-test (le-test (costOf (insertCost ws) (tableOf ws) A) 60000)
+      (λ k. record { cost = costOf (insertCost ws) (tableOf ws) A; cheapest = ready-cost r A l h; limit = k })
+      (λ a. omega (arith, cheapest-unique (a .cheapest) (ready-cost r A l h), a .limit))))
+
+  shared-test : ((k : ℕ) → k < nonterminalCount ws → Reachable (RuleOf ws) (START ∷ []) (64 + k))
+      → Reflects (noneShared ws) (NoneShared (RuleOf ws) (START ∷ END ∷ []))
+  unfolding noneShared
+  shared-test reach =
+      let rs = rulesOf ws in
+      iff-test
+      (none-shared-test rs (terminalCount ws) (nonterminalCount ws) (START ∷ END ∷ []) (ranged ws s)
+      (All.also (inr (omega arith, omega (arith, s .nonterminals-low))) (All.also (inl (omega arith)) All.nothing))
+      (All.also (inr (omega arith)) (All.also (inl (omega (arith, s .terminals-low))) All.nothing))
+      (λ p A β i.
+      let r = ranged ws s in
+      let e : 64 + (A - 64) ≡ A = omega (arith, r .low p A β i) in
+      with-end
+      (reachable-within (RuleOf ws) (RuleAt rs) to
+      (subst (Reachable (RuleOf ws) (START ∷ [])) e (reach (A - 64) (omega (arith, r .low p A β i, r .high p A β i)))))))
+      (λ n p q A t β γ i j h k.
+      n p q A t β γ (to p A β i) (to q A γ j) (predict-within (RuleOf ws) (RuleAt rs) to h) (predict-within (RuleOf ws) (RuleAt rs) to k))
+      (λ n p q A t β γ i j h k.
+      n p q A t β γ (from p A β i) (from q A γ j) (predict-within (RuleAt rs) (RuleOf ws) from h)
+      (predict-within (RuleAt rs) (RuleOf ws) from k))
+
+-- ---- The verdict, in order
+
+unfoldable pub byShared : Bool → Option (Option Refusal)
+byShared true = some none
+byShared false = some (some SharedPredict)
+
+unfoldable pub byCost : List ℕ → Bool → Option (Option Refusal)
+unfolding byShared noneShared
+byCost ws true = byShared (noneShared ws)
+byCost ws false = some (some TooCostly)
+
+unfoldable pub byReady : List ℕ → Bool → Option (Option Refusal)
+unfolding byCost allAffordable
+byReady ws true = byCost ws (allAffordable ws)
+byReady ws false = none
+
+unfoldable pub byProductive : List ℕ → Bool → Option (Option Refusal)
+unfolding byReady costsReady
+byProductive ws true = byReady ws (costsReady ws)
+byProductive ws false = some (some NoString)
+
+unfoldable pub byReachable : List ℕ → Bool → Option (Option Refusal)
+unfolding byProductive allProductive
+byReachable ws true = byProductive ws (allProductive ws)
+byReachable ws false = some (some Unreachable)
+
+unfoldable pub byShape : List ℕ → Bool → Option (Option Refusal)
+unfolding byReachable allReachable
+byShape ws true = byReachable ws (allReachable ws)
+byShape ws false = some (some BadShape)
+
+-- The model's verdict; nothing where its costs are not ready.
+unfoldable pub verdictOf : List ℕ → Option (Option Refusal)
+unfolding byShape isShaped
+verdictOf ws = byShape ws (isShaped ws)
+
+module _ (ws : List ℕ) (o : Option Refusal) where
+  -- A test that fails: its refusal applies.
+  fails : {b : Bool} {P : Type 0} {r : Refusal} {rs : List Refusal} → Reflects b P → (Meets ws r → P) → b ≡ false → some (some r) ≡ some o
+      → Lowest (Meets ws) (r ∷ rs) o
+  fails {r = r} {rs = rs} t m q e =
+      subst (Lowest (Meets ws) (r ∷ rs)) (some-same e) (Lowest.applies (λ k. subst T q (t .said (m k))))
+
+  passed : {b : Bool} {P : Type 0} → Reflects b P → b ≡ true → P
+  passed t q = t .says (subst T (sym q) tt)
+
+  is-shaped : Meets ws BadShape → Shaped ws
+  is-shaped (Meets.shaped s) = s
+
+  is-reachable : Meets ws Unreachable → (k : ℕ) → k < nonterminalCount ws → Reachable (RuleOf ws) (START ∷ []) (64 + k)
+  is-reachable (Meets.reachable f) = f
+
+  is-productive : Meets ws NoString → (k : ℕ) → k < nonterminalCount ws → Productive (RuleOf ws) (64 + k)
+  is-productive (Meets.productive f) = f
+
+  is-affordable : Meets ws TooCostly → (k : ℕ) → k < nonterminalCount ws → Affordable ws (64 + k)
+  is-affordable (Meets.affordable f) = f
+
+  is-unshared : Meets ws SharedPredict → NoneShared (RuleOf ws) (START ∷ END ∷ [])
+  is-unshared (Meets.none-shared n) = n
+
+  module _ (s : Shaped ws) where
+    judge-shared : ((k : ℕ) → k < nonterminalCount ws → Reachable (RuleOf ws) (START ∷ []) (64 + k)) → (b : Bool) → noneShared ws ≡ b
+        → byShared b ≡ some o → Lowest (Meets ws) (SharedPredict ∷ []) o
+    unfolding byShared
+    judge-shared r true q e =
+        subst (Lowest (Meets ws) (SharedPredict ∷ [])) (some-same e)
+        (Lowest.passes (Meets.none-shared (passed (shared-test ws s r) q)) Lowest.all-met)
+    judge-shared r false q e = fails (shared-test ws s r) is-unshared q e
+
+    judge-cost : ((k : ℕ) → k < nonterminalCount ws → Reachable (RuleOf ws) (START ∷ []) (64 + k)) → T (costsReady ws) → (b : Bool)
+        → allAffordable ws ≡ b → byCost ws b ≡ some o → Lowest (Meets ws) (TooCostly ∷ SharedPredict ∷ []) o
+    unfolding byCost
+    judge-cost r c true q e =
+        Lowest.passes (Meets.affordable (passed (affordable-test ws s c) q)) (judge-shared r (noneShared ws) refl e)
+    judge-cost r c false q e = fails (affordable-test ws s c) is-affordable q e
+
+    judge-ready : ((k : ℕ) → k < nonterminalCount ws → Reachable (RuleOf ws) (START ∷ []) (64 + k)) → (b : Bool) → costsReady ws ≡ b
+        → byReady ws b ≡ some o → Lowest (Meets ws) (TooCostly ∷ SharedPredict ∷ []) o
+    unfolding byReady
+    judge-ready r true q e = judge-cost r (subst T (sym q) tt) (allAffordable ws) refl e
+    judge-ready r false q e = absurd (none-some e)
+
+    judge-productive : ((k : ℕ) → k < nonterminalCount ws → Reachable (RuleOf ws) (START ∷ []) (64 + k)) → (b : Bool) → allProductive ws ≡ b
+        → byProductive ws b ≡ some o → Lowest (Meets ws) (NoString ∷ TooCostly ∷ SharedPredict ∷ []) o
+    unfolding byProductive
+    judge-productive r true q e =
+        Lowest.passes (Meets.productive (passed (productive-test ws s) q)) (judge-ready r (costsReady ws) refl e)
+    judge-productive r false q e = fails (productive-test ws s) is-productive q e
+
+    judge-reachable : (b : Bool) → allReachable ws ≡ b → byReachable ws b ≡ some o
+        → Lowest (Meets ws) (Unreachable ∷ NoString ∷ TooCostly ∷ SharedPredict ∷ []) o
+    unfolding byReachable
+    judge-reachable true q e =
+        let r = passed (reachable-test ws s) q in Lowest.passes (Meets.reachable r) (judge-productive r (allProductive ws) refl e)
+    judge-reachable false q e = fails (reachable-test ws s) is-reachable q e
+
+  judge-shape : (b : Bool) → isShaped ws ≡ b → byShape ws b ≡ some o → Verdict ws o
+  unfolding byShape
+  judge-shape true q e =
+      let s = passed (shape-test ws) q in Lowest.passes (Meets.shaped s) (judge-reachable s (allReachable ws) refl e)
+  judge-shape false q e = fails (shape-test ws) is-shaped q e
+
+  -- Where the model gives a verdict, it is the definitions'.
+  pub judged : verdictOf ws ≡ some o → Verdict ws o
+  unfolding verdictOf
+  judged e = judge-shape (isShaped ws) refl e
+
+-- An accepted grammar's costs are ready.
+refused-not : {r : Refusal} → some (some r) ≡ some none → ⊥
+refused-not e = none-some (sym (some-same e))
+
+pub accepted-ready : (ws : List ℕ) → verdictOf ws ≡ some none → T (costsReady ws)
+unfolding verdictOf byShape byReachable byProductive byReady
+accepted-ready ws e = by-shape (isShaped ws) e
+  where
+    by-ready : (b : Bool) → costsReady ws ≡ b → byReady ws b ≡ some none → T (costsReady ws)
+    by-ready true q e = subst T (sym q) tt
+    by-ready false q e = absurd (none-some e)
+
+    by-productive : (b : Bool) → byProductive ws b ≡ some none → T (costsReady ws)
+    by-productive true e = by-ready (costsReady ws) refl e
+    by-productive false e = absurd (refused-not e)
+
+    by-reachable : (b : Bool) → byReachable ws b ≡ some none → T (costsReady ws)
+    by-reachable true e = by-productive (allProductive ws) e
+    by-reachable false e = absurd (refused-not e)
+
+    by-shape : (b : Bool) → byShape ws b ≡ some none → T (costsReady ws)
+    by-shape true e = by-reachable (allReachable ws) e
+    by-shape false e = absurd (refused-not e)

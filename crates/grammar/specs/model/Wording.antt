@@ -1,0 +1,137 @@
+-- The rules of the words as a list, and that the list says what the words say.
+use Prim.Native.Nat.{ℕ, zero, suc, _+_, _≤_, _<_}
+use mathlib.Core.Path.{_≡_, refl, sym, ap, _∙_, subst}
+use mathlib.Core.List.{List, [], _∷_, _++_, map}
+use native.Mathlib.Omega.{arith}
+use lib.ListN.{length, getD, take, drop, length-take, length-drop}
+use lib.Seq.{getD-take, getD-drop}
+use Rattle.grammar.specs.Words.{word, terminalCount, nonterminalCount, ruleCount, leftSide, rightSide, rightSize, rulePlace, RuleSymbol, Shaped}
+use Rattle.grammar.specs.Derivation.{Rules, All, Step, Derives, First, Follow, Reachable, Yields, Productive, Predict}
+use Rattle.grammar.specs.Cost.{Cheapest}
+use Rattle.grammar.specs.Grammar.{RuleOf}
+use Rattle.grammar.specs.theory.Pigeonhole.{range}
+use Rattle.grammar.specs.model.Ruled.{Rule, RuleAt, Ranged}
+
+unfoldable pub ruleOf : List ℕ → ℕ → Rule
+unfolding rulePlace rightSide
+ruleOf ws p = record { left = leftSide ws p; right = rightSide ws p }
+
+unfoldable pub rulesOf : List ℕ → List Rule
+unfolding ruleOf range
+rulesOf ws = map (ruleOf ws) (range 0 (ruleCount ws))
+
+pub record Listed (f : ℕ → Rule) (a n p A : ℕ) (β : List ℕ) : Type 0 where
+  pub counted : p < n
+  pub left : A ≡ f (a + p) .left
+  pub right : β ≡ f (a + p) .right
+
+listed : (f : ℕ → Rule) (a n p A : ℕ) (β : List ℕ) → RuleAt (map f (range a n)) p A β → Listed f a n p A β
+unfolding range
+listed f a (suc n) p A β (RuleAt.here e d) =
+    record { counted = omega arith; left = e ∙ ap (λ k. f k .left) (omega arith); right = d ∙ ap (λ k. f k .right) (omega arith) }
+listed f a (suc n) p A β (RuleAt.there {p = q} i) =
+    let h = listed f (suc a) n q A β i in
+    record {
+      counted = omega (arith, h .counted);
+      left = h .left ∙ ap (λ k. f k .left) (omega arith);
+      right = h .right ∙ ap (λ k. f k .right) (omega arith);
+    }
+
+lists : (f : ℕ → Rule) (a n p A : ℕ) (β : List ℕ) → Listed f a n p A β → RuleAt (map f (range a n)) p A β
+unfolding range
+lists f a zero p A β h = absurd (let k = h .counted in omega arith)
+lists f a (suc n) zero A β h =
+    let e : a + 0 ≡ a = omega arith in RuleAt.here (h .left ∙ ap (λ k. f k .left) e) (h .right ∙ ap (λ k. f k .right) e)
+lists f a (suc n) (suc p) A β h =
+    RuleAt.there
+    (lists f (suc a) n p A β
+    (record {
+      counted = omega (arith, h .counted);
+      left = h .left ∙ ap (λ k. f k .left) (omega arith);
+      right = h .right ∙ ap (λ k. f k .right) (omega arith);
+    }))
+
+-- The list has the words' rules, and no others.
+pub rule-listed : (ws : List ℕ) (p A : ℕ) (β : List ℕ) → RuleOf ws p A β → RuleAt (rulesOf ws) p A β
+unfolding rulesOf ruleOf
+rule-listed ws p A β r =
+    let e : p ≡ 0 + p = omega arith in
+    lists (ruleOf ws) 0 (ruleCount ws) p A β
+    (record { counted = r .counted; left = r .left ∙ ap (leftSide ws) e; right = r .right ∙ ap (rightSide ws) e })
+
+pub listed-rule : (ws : List ℕ) (p A : ℕ) (β : List ℕ) → RuleAt (rulesOf ws) p A β → RuleOf ws p A β
+unfolding rulesOf ruleOf
+listed-rule ws p A β i =
+    let h = listed (ruleOf ws) 0 (ruleCount ws) p A β i in
+    let e : 0 + p ≡ p = omega arith in
+    record { counted = h .counted; left = h .left ∙ ap (leftSide ws) e; right = h .right ∙ ap (rightSide ws) e }
+
+-- ---- The shape keeps symbols in range
+
+-- What holds at each index holds of all.
+pub all-index : {P : ℕ → Type 0} (l : List ℕ) → ((i : ℕ) → i < length l → P (getD l i 0)) → All P l
+all-index [] f = All.nothing
+all-index (x ∷ l) f = All.also (f 0 (omega arith)) (all-index l (λ i h. f (suc i) (omega arith)))
+
+pub right-symbols : (ws : List ℕ) → Shaped ws → (p : ℕ) → p < ruleCount ws → All (RuleSymbol (terminalCount ws) (nonterminalCount ws)) (rightSide ws p)
+unfolding rightSide
+right-symbols ws s p h =
+    all-index (rightSide ws p)
+    (λ i l.
+    let k : i < rightSize ws p = omega (arith, length-take (rightSize ws p) (drop (rulePlace ws p + 2) ws)) in
+    subst (RuleSymbol (terminalCount ws) (nonterminalCount ws))
+    (sym (getD-take (rightSize ws p) (drop (rulePlace ws p + 2) ws) i 0 k ∙ getD-drop (rulePlace ws p + 2) ws i 0))
+    (s .rules p h .symbols i k))
+
+pub ranged : (ws : List ℕ) → Shaped ws → Ranged (rulesOf ws) (terminalCount ws) (nonterminalCount ws)
+ranged ws s =
+    record {
+      terminals = s .terminals-high;
+      low = λ p A β i. omega (arith, listed-rule ws p A β i .left);
+      high = λ p A β i. let r = listed-rule ws p A β i in omega (arith, r .left, s .rules p (r .counted) .left);
+      symbols = λ p A β i.
+          let r = listed-rule ws p A β i in
+          subst (All (RuleSymbol (terminalCount ws) (nonterminalCount ws))) (sym (r .right)) (right-symbols ws s p (r .counted));
+    }
+
+-- ---- What two sets of rules that say the same derive
+
+abbrev pub Within : Rules → Rules → Type 0
+Within R S = (p A : ℕ) (β : List ℕ) → R p A β → S p A β
+
+module _ (R S : Rules) (w : Within R S) where
+  pub step-within : {α β : List ℕ} → Step R α β → Step S α β
+  step-within (Step.here {p = p} {A = A} {β = β} r) = Step.here (w p A β r)
+  step-within (Step.later s) = Step.later (step-within s)
+
+  pub derives-within : {α β : List ℕ} → Derives R α β → Derives S α β
+  derives-within Derives.done = Derives.done
+  derives-within (Derives.step s d) = Derives.step (step-within s) (derives-within d)
+
+  pub first-within : {α : List ℕ} {t : ℕ} → First R α t → First S α t
+  first-within f = record { token = f .token; rest = f .rest; begins = derives-within (f .begins) }
+
+  pub follow-within : {σ : List ℕ} {A t : ℕ} → Follow R σ A t → Follow S σ A t
+  follow-within f = record { token = f .token; front = f .front; rest = f .rest; stands = derives-within (f .stands) }
+
+  pub reachable-within : {σ : List ℕ} {A : ℕ} → Reachable R σ A → Reachable S σ A
+  reachable-within f = record { front = f .front; rest = f .rest; stands = derives-within (f .stands) }
+
+  pub yields-within : {α v : List ℕ} → Yields R α v → Yields S α v
+  yields-within y = record { terminals = y .terminals; derives = derives-within (y .derives) }
+
+  pub productive-within : {A : ℕ} → Productive R A → Productive S A
+  productive-within p = record { string = p .string; yields = yields-within (p .yields) }
+
+  pub predict-within : {σ β : List ℕ} {A t : ℕ} → Predict R σ A β t → Predict S σ A β t
+  predict-within (Predict.by-first f) = Predict.by-first (first-within f)
+  predict-within (Predict.by-follow e f) = Predict.by-follow (derives-within e) (follow-within f)
+
+pub cheapest-within : (R S : Rules) → Within R S → Within S R → {price : ℕ → ℕ} {A c : ℕ} → Cheapest R price A c → Cheapest S price A c
+cheapest-within R S to from c =
+    record {
+      string = c .string;
+      yields = yields-within R S to (c .yields);
+      costs = c .costs;
+      least = λ w y. c .least w (yields-within S R from y);
+    }

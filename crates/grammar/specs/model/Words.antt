@@ -1,0 +1,84 @@
+-- The words' grammar with its tests: what the run's model needs.
+use Prim.Native.Nat.{ℕ, zero, suc, _+_, _≤_, _<_}
+use mathlib.Core.Path.{_≡_, refl, sym, ap, _∙_, subst}
+use mathlib.Core.Bool.{Bool, true, false, _&&_, _||_}
+use mathlib.Core.Option.{Option, none, some}
+use mathlib.Core.List.{List, [], _∷_}
+use mathlib.Core.Logic.{_⊎_, inl, inr, ⊎-elim}
+use lib.Dec.{T, leb, leb→le, ltb, ltb→lt, eqb, eqb→eq, lt→ltb}
+use Rattle.grammar.specs.Words.{END, Shaped, terminalCount, nonterminalCount, insertCost, reliability}
+use Rattle.grammar.specs.Cost.{SymbolCost}
+use Rattle.grammar.specs.Grammar.{grammarOf, RuleOf, Reliable}
+use Rattle.grammar.specs.model.Tests.{holds, left-of, right-of, one-of, or-left, or-right, equal-passes}
+use Rattle.grammar.specs.model.Ruled.{Rule, RuleAt}
+use Rattle.grammar.specs.model.Sets.{nulls}
+use Rattle.grammar.specs.model.Firsts.{begins, starts, firsts, isFirst, first-sound, first-complete}
+use Rattle.grammar.specs.model.Prices.{costOf, terminal-cost}
+use Rattle.grammar.specs.model.Judge.{tableOf, costsReady, ready-cost}
+use Rattle.grammar.specs.model.Wording.{rulesOf, rule-listed, listed-rule, ranged, first-within}
+use Rattle.grammar.specs.model.Decided.{Tests, Decided}
+
+-- A symbol of the grammar's.
+unfoldable pub isInner : ℕ → ℕ → Bool
+isInner N X = ltb X 64 || (leb 64 X && ltb X (64 + N))
+
+-- A cost is strictly below the reliability of token t, END's being unlimited.
+unfoldable pub isBelow : List ℕ → ℕ → ℕ → Bool
+isBelow ws c t = eqb t END || ltb c (reliability ws t)
+
+-- The tests of the words' grammar.
+unfoldable pub testsOf : List ℕ → Tests
+unfolding rulesOf nulls tableOf begins holds starts firsts isInner costOf isBelow
+testsOf ws =
+    let rs = rulesOf ws in
+    let N = nonterminalCount ws in
+    let ns = nulls rs N in
+    let table = tableOf ws in
+    record {
+      rules = rs;
+      first = λ α t. begins (holds ns) (starts t (firsts rs ns N t)) α;
+      inner = isInner N;
+      cost = costOf (insertCost ws) table;
+      below = isBelow ws;
+    }
+
+module _ (ws : List ℕ) (s : Shaped ws) (ready : T (costsReady ws)) where
+  inner-cost : (X : ℕ) → T (isInner (nonterminalCount ws) X)
+      → SymbolCost (RuleOf ws) (insertCost ws) X (costOf (insertCost ws) (tableOf ws) X)
+  unfolding isInner
+  inner-cost X h =
+      let N = nonterminalCount ws in
+      ⊎-elim
+      (λ k. let l = ltb→lt X 64 k in SymbolCost.terminal l (sym (terminal-cost (insertCost ws) (tableOf ws) X l)))
+      (λ k.
+      let l = leb→le 64 X (left-of (leb 64 X) (ltb X (64 + N)) k) in
+      let m = ltb→lt X (64 + N) (right-of (leb 64 X) (ltb X (64 + N)) k) in
+      SymbolCost.nonterminal l (ready-cost ws s ready X l m))
+      (one-of (ltb X 64) (leb 64 X && ltb X (64 + N)) h)
+
+  below-reliable : (c t : ℕ) → T (isBelow ws c t) → Reliable ws c t
+  unfolding isBelow
+  below-reliable c t h =
+      ⊎-elim (λ k. Reliable.unlimited (eqb→eq t END k)) (λ k. Reliable.limited (ltb→lt c (reliability ws t) k))
+      (one-of (eqb t END) (ltb c (reliability ws t)) h)
+
+  reliable-below : (c t : ℕ) → Reliable ws c t → T (isBelow ws c t)
+  unfolding isBelow
+  reliable-below c t (Reliable.unlimited e) = or-left (eqb t END) (ltb c (reliability ws t)) (equal-passes t END e)
+  reliable-below c t (Reliable.limited h) = or-right (eqb t END) (ltb c (reliability ws t)) (lt→ltb c (reliability ws t) h)
+
+  pub decided : Decided (grammarOf ws) (testsOf ws)
+  unfolding testsOf isFirst
+  decided =
+      let rs = rulesOf ws in
+      let N = nonterminalCount ws in
+      record {
+        listed = rule-listed ws;
+        lists = listed-rule ws;
+        first-says = λ α t l h. first-within (RuleAt rs) (RuleOf ws) (listed-rule ws) (first-sound rs N t l α h);
+        says-first = λ α t f.
+            first-complete rs N t (terminalCount ws) (ranged ws s) (first-within (RuleOf ws) (RuleAt rs) (rule-listed ws) f);
+        costs = inner-cost;
+        below-says = below-reliable;
+        says-below = reliable-below;
+      }

@@ -1,4 +1,0 @@
-pub mod Pigeonhole
-pub mod Leftmost
-pub mod Closed
-pub mod Reach
