@@ -1,0 +1,1 @@
+// The shape of grammar words, and where each rule stands.
