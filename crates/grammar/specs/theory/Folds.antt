@@ -1,0 +1,155 @@
+-- What a list of moves leaves, move list by move list: the repaired log, the tokens passed and the edits of moves one behind
+-- another, and of a correction's deletes and inserts.
+use Prim.Native.Nat.{ℕ, zero, suc, _+_, _*_, _≤_}
+use mathlib.Core.Path.{_≡_, refl, sym, ap, _∙_}
+use mathlib.Core.List.{List, [], _∷_, _++_, append-assoc, append-nil}
+use native.Mathlib.Omega.{arith}
+use lib.ListN.{length, take, drop, length-append}
+use Rattle.grammar.specs.Moves.{Move, Edit, edits, editWords, ruleNumbers, logToken, repaired, passed, placed}
+use Rattle.grammar.specs.Run.{deletes, inserts}
+
+-- ---- The repaired log
+
+pub repaired-append : (ms ns : List Move) → repaired (ms ++ ns) ≡ repaired ms ++ repaired ns
+unfolding repaired
+repaired-append [] ns = refl
+repaired-append (Move.match p t ∷ ms) ns =
+    ap (λ l. logToken t ++ l) (repaired-append ms ns) ∙ sym (append-assoc (logToken t) (repaired ms) (repaired ns))
+repaired-append (Move.expand q ∷ ms) ns = repaired-append ms ns
+repaired-append (Move.drop X ∷ ms) ns = repaired-append ms ns
+repaired-append (Move.delete p t ∷ ms) ns = repaired-append ms ns
+repaired-append (Move.insert p X ∷ ms) ns = ap (λ l. X ∷ l) (repaired-append ms ns)
+
+repaired-deletes : (p : ℕ) (ts : List ℕ) → repaired (deletes p ts) ≡ []
+unfolding repaired deletes
+repaired-deletes p [] = refl
+repaired-deletes p (t ∷ ts) = repaired-deletes (p + 1) ts
+
+repaired-inserts : (r : ℕ) (Xs : List ℕ) → repaired (inserts r Xs) ≡ Xs
+unfolding repaired inserts
+repaired-inserts r [] = refl
+repaired-inserts r (X ∷ Xs) = ap (λ l. X ∷ l) (repaired-inserts r Xs)
+
+-- A correction leaves the symbols that it inserts.
+pub repaired-correction : (p r : ℕ) (ts Xs : List ℕ) (ms : List Move) → repaired ((deletes p ts ++ inserts r Xs) ++ ms) ≡ Xs ++ repaired ms
+repaired-correction p r ts Xs ms =
+    let e : repaired (deletes p ts ++ inserts r Xs) ≡ Xs =
+    cc (repaired-append (deletes p ts) (inserts r Xs), repaired-deletes p ts, repaired-inserts r Xs) in
+    repaired-append (deletes p ts ++ inserts r Xs) ms ∙ ap (λ l. l ++ repaired ms) e
+
+-- A token of the log leaves itself, END nothing.
+pub log-token : (t : ℕ) → 1 ≤ t → logToken t ≡ t ∷ []
+unfolding logToken
+log-token zero l = absurd (omega arith)
+log-token (suc t) l = refl
+
+-- ---- The tokens passed
+
+pub passed-append : (ms ns : List Move) → passed (ms ++ ns) ≡ passed ms ++ passed ns
+unfolding passed
+passed-append [] ns = refl
+passed-append (Move.match p t ∷ ms) ns = ap (λ l. record { place = p; token = t } ∷ l) (passed-append ms ns)
+passed-append (Move.expand q ∷ ms) ns = passed-append ms ns
+passed-append (Move.drop X ∷ ms) ns = passed-append ms ns
+passed-append (Move.delete p t ∷ ms) ns = ap (λ l. record { place = p; token = t } ∷ l) (passed-append ms ns)
+passed-append (Move.insert p X ∷ ms) ns = passed-append ms ns
+
+passed-deletes : (p : ℕ) (ts : List ℕ) → passed (deletes p ts) ≡ placed p ts
+unfolding passed deletes placed
+passed-deletes p [] = refl
+passed-deletes p (t ∷ ts) = ap (λ l. record { place = p; token = t } ∷ l) (passed-deletes (p + 1) ts)
+
+passed-inserts : (r : ℕ) (Xs : List ℕ) → passed (inserts r Xs) ≡ []
+unfolding passed inserts
+passed-inserts r [] = refl
+passed-inserts r (X ∷ Xs) = passed-inserts r Xs
+
+-- A correction passes the tokens that it deletes.
+pub passed-correction : (p r : ℕ) (ts Xs : List ℕ) (ms : List Move)
+    → passed ((deletes p ts ++ inserts r Xs) ++ ms) ≡ placed p ts ++ passed ms
+passed-correction p r ts Xs ms =
+    let e : passed (deletes p ts ++ inserts r Xs) ≡ placed p ts =
+    cc (passed-append (deletes p ts) (inserts r Xs), passed-deletes p ts, passed-inserts r Xs, append-nil (placed p ts)) in
+    passed-append (deletes p ts ++ inserts r Xs) ms ∙ ap (λ l. l ++ passed ms) e
+
+-- The tokens of a list, with their places, are those of its first j and those behind.
+pub placed-split : (p j : ℕ) (ts : List ℕ) → j ≤ length ts → placed p (take j ts) ++ placed (p + j) (drop j ts) ≡ placed p ts
+unfolding placed
+placed-split p zero ts l = ap (λ q. placed q ts) (omega arith)
+placed-split p (suc j) [] l = absurd (omega arith)
+placed-split p (suc j) (t ∷ ts) l =
+    ap (λ r. record { place = p; token = t } ∷ r)
+    (ap (λ q. placed (p + 1) (take j ts) ++ placed q (drop j ts)) (omega arith) ∙ placed-split (p + 1) j ts (omega arith))
+
+-- ---- The edits and the rule numbers
+
+pub edits-append : (ms ns : List Move) → edits (ms ++ ns) ≡ edits ms ++ edits ns
+unfolding edits
+edits-append [] ns = refl
+edits-append (Move.match p t ∷ ms) ns = edits-append ms ns
+edits-append (Move.expand q ∷ ms) ns = edits-append ms ns
+edits-append (Move.drop X ∷ ms) ns = edits-append ms ns
+edits-append (Move.delete p t ∷ ms) ns = ap (λ l. record { kind = 1; place = p; symbol = t } ∷ l) (edits-append ms ns)
+edits-append (Move.insert p X ∷ ms) ns = ap (λ l. record { kind = 2; place = p; symbol = X } ∷ l) (edits-append ms ns)
+
+edits-deletes : (p : ℕ) (ts : List ℕ) → length (edits (deletes p ts)) ≡ length ts
+unfolding edits deletes
+edits-deletes p [] = refl
+edits-deletes p (t ∷ ts) = ap suc (edits-deletes (p + 1) ts)
+
+edits-inserts : (r : ℕ) (Xs : List ℕ) → length (edits (inserts r Xs)) ≡ length Xs
+unfolding edits inserts
+edits-inserts r [] = refl
+edits-inserts r (X ∷ Xs) = ap suc (edits-inserts r Xs)
+
+-- A correction lists a record for each token that it deletes and each symbol that it inserts,
+pub edits-correction : (p r : ℕ) (ts Xs : List ℕ) (ms : List Move)
+    → length (edits ((deletes p ts ++ inserts r Xs) ++ ms)) ≡ length ts + length Xs + length (edits ms)
+edits-correction p r ts Xs ms =
+    omega (
+      arith,
+      ap length (edits-append (deletes p ts ++ inserts r Xs) ms),
+      length-append (edits (deletes p ts ++ inserts r Xs)) (edits ms),
+      ap length (edits-append (deletes p ts) (inserts r Xs)),
+      length-append (edits (deletes p ts)) (edits (inserts r Xs)),
+      edits-deletes p ts,
+      edits-inserts r Xs,
+    )
+
+pub rules-append : (ms ns : List Move) → ruleNumbers (ms ++ ns) ≡ ruleNumbers ms ++ ruleNumbers ns
+unfolding ruleNumbers
+rules-append [] ns = refl
+rules-append (Move.match p t ∷ ms) ns = rules-append ms ns
+rules-append (Move.expand q ∷ ms) ns = ap (λ l. q ∷ l) (rules-append ms ns)
+rules-append (Move.drop X ∷ ms) ns = rules-append ms ns
+rules-append (Move.delete p t ∷ ms) ns = rules-append ms ns
+rules-append (Move.insert p X ∷ ms) ns = rules-append ms ns
+
+rules-deletes : (p : ℕ) (ts : List ℕ) → ruleNumbers (deletes p ts) ≡ []
+unfolding ruleNumbers deletes
+rules-deletes p [] = refl
+rules-deletes p (t ∷ ts) = rules-deletes (p + 1) ts
+
+rules-inserts : (r : ℕ) (Xs : List ℕ) → ruleNumbers (inserts r Xs) ≡ []
+unfolding ruleNumbers inserts
+rules-inserts r [] = refl
+rules-inserts r (X ∷ Xs) = rules-inserts r Xs
+
+-- and no rule number.
+pub rules-correction : (p r : ℕ) (ts Xs : List ℕ) (ms : List Move)
+    → ruleNumbers ((deletes p ts ++ inserts r Xs) ++ ms) ≡ ruleNumbers ms
+rules-correction p r ts Xs ms =
+    let e : ruleNumbers (deletes p ts ++ inserts r Xs) ≡ [] =
+    cc (rules-append (deletes p ts) (inserts r Xs), rules-deletes p ts, rules-inserts r Xs) in
+    rules-append (deletes p ts ++ inserts r Xs) ms ∙ ap (λ l. l ++ ruleNumbers ms) e
+
+-- A record is three words.
+pub edit-words-length : (es : List Edit) → length (editWords es) ≡ 3 * length es
+unfolding editWords
+edit-words-length [] = refl
+edit-words-length (e ∷ es) = omega (arith, edit-words-length es)
+
+pub placed-length : (p : ℕ) (ts : List ℕ) → length (placed p ts) ≡ length ts
+unfolding placed
+placed-length p [] = refl
+placed-length p (t ∷ ts) = ap suc (placed-length (p + 1) ts)
