@@ -1,5 +1,5 @@
--- An executable model of the definitions, proved to give what they say: slow and plain. It serves the twelve cases, and that
--- FIRST is decided.
+-- An executable model of the definitions, proved to give what they say where it answers: slow and plain. It serves the
+-- twelve cases.
 pub mod Tests
 pub mod Saturate
 pub mod Ruled

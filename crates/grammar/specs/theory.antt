@@ -5,11 +5,13 @@ pub mod Pigeonhole
 pub mod Leftmost
 pub mod Closed
 pub mod Reach
+pub mod Sides
 pub mod Good
 pub mod Forms
 pub mod Predictive
 pub mod Leads
 pub mod Chosen
+pub mod Search
 pub mod Token
 pub mod States
 pub mod Determined

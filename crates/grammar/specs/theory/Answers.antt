@@ -57,6 +57,7 @@ all-parse Lowest.all-met e = Lowest.all-met
 all-parse (Lowest.applies n) e = absurd (some-none e refl)
 all-parse (Lowest.passes m l) e = Lowest.passes (pace-parse m) (all-parse l e)
 
+-- Where none of 5 to 10 applies, the words are accepted and the log fits.
 pub admitted : {ws log : List ℕ} → Lowest (ParseMeets ws log) parseRefusals none → Admitted ws log
 admitted
     (Lowest.passes a (Lowest.passes b (Lowest.passes c (Lowest.passes d (Lowest.passes e (Lowest.passes f Lowest.all-met)))))) =

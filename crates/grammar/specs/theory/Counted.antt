@@ -58,6 +58,7 @@ counted-step {σ = σ} {ρ = ρ} {u = u} {ms = ms} p k l (Choice.correct {j = j}
       rest = c .rest ∙ drop-drop (length (passed ms)) j ρ ∙ ap (λ n. drop n ρ) (sym tokens);
     }
 
+-- Each path counts so.
 pub path-counted : {G : Grammar} {L : Limits} {s u : State} {ms : List Move} → Path G L s ms u → Counted s u ms
 unfolding edits ruleNumbers passed
 path-counted Path.still = record { records = omega arith; listed = omega arith; place = omega arith; rest = refl }
@@ -152,6 +153,7 @@ pub parsed-lengths : {ws log : List ℕ} {editRoom ruleRoom : ℕ} {a : Outcome 
 parsed-lengths {log = log} p =
     let h = settled-lengths log (p .settled) in (ap length (p .leaves-edits) ∙ h .0, ap length (p .leaves-rules) ∙ h .1)
 
+-- The report leaves its buffers as long as they were lent.
 pub reported-lengths : {ws log ticks : List ℕ} {editRoom ruleRoom : ℕ} {a : Outcome Report} {x u : List ℕ}
     → Reported ws log ticks editRoom ruleRoom a x u → (length x ≡ editRoom) × (length u ≡ ruleRoom)
 reported-lengths {log = log} p =

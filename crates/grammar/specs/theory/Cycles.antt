@@ -49,6 +49,7 @@ ascending-unique (s ∷ ss) (u ∷ us) a b f g =
     apart : {x y : Span} → y .closed < x .closed → x ≡ y → ⊥
     apart {x} {y} l h = omega (arith, ap (λ (z : Span). z .closed) h)
 
+-- The clean cycles are one list.
 pub clean-cycles-unique : {o c : ℕ} {ms : List Move} {cs ds : List Span} → CleanCycles o c ms cs → CleanCycles o c ms ds → cs ≡ ds
 clean-cycles-unique {cs = cs} {ds = ds} x y =
     ascending-unique cs ds (x .ascending) (y .ascending)

@@ -170,10 +170,12 @@ decRuleOf ws p A =
     (λ n. no (λ r. n (r .1 .left))))
     (λ n. no (λ r. n (r .1 .counted)))
 
+-- For the words of an accepted grammar FIRST is decided,
 pub decFirstOf : (ws : List ℕ) → Accepted ws → (α : List ℕ) (t : ℕ) → Dec (First (RuleOf ws) α t)
 decFirstOf ws a =
     decFirst (grammarOf ws) (nonterminalCount ws) 8 (good-words ws a) (ruleCount ws) (λ p A β r. r .counted) (decRuleOf ws)
 
+-- and so is the reliability test.
 pub decReliableOf : (ws : List ℕ) (c t : ℕ) → Dec (Reliable ws c t)
 decReliableOf ws c t =
     dite

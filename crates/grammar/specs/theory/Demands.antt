@@ -74,8 +74,8 @@ module _ (ws log : List ℕ) (passes : Verdict ws none) (fits : LogFits ws log) 
   unfolding good
   opened = opens-with-start ws (accepted passes) 8 (eight-bounds ws (accepted passes))
 
-  -- "Moves are at most 2 + n + R x N x n", of every run, also of one that is refused midway, where R bounds the right sides: 8
-  -- does, and so does the longest.
+  -- Demand 3: moves are at most 2 + n + R x N x n, of every run, also of one that is refused midway, where R bounds the right
+  -- sides: 8 does, and so does the longest. Case 12 is "the bound itself", with R 0: 2 + 1 + 0 moves.
   pub moves-bounded : {editRoom ruleRoom : ℕ} {ms : List Move} {o : Option Refusal} (R : ℕ)
       → ((p : ℕ) → p < ruleCount ws → rightSize ws p ≤ R) → RunOf ws log editRoom ruleRoom ms o
       → length ms ≤ 2 + length log + R * nonterminalCount ws * length log
@@ -101,7 +101,7 @@ module _ (ws log : List ℕ) (passes : Verdict ws none) (fits : LogFits ws log) 
       Exists.hit-on-path (grammarOf ws) (nonterminalCount ws) 8 good (decFirstOf ws (accepted passes)) (decReliableOf ws) tokens path more
 
   module _ {editRoom ruleRoom : ℕ} {ms : List Move} (run : RunOf ws log editRoom ruleRoom ms none) where
-    -- "The repaired log .. must be derivable from START,
+    -- Demand 2: "The repaired log .. must be derivable from START,
     pub repaired-derivable : Derives (RuleOf ws) (START ∷ []) (repaired ms)
     repaired-derivable =
         subst (λ l. Derives (RuleOf ws) l (repaired ms)) opened
@@ -118,7 +118,7 @@ module _ (ws log : List ℕ) (passes : Verdict ws none) (fits : LogFits ws log) 
     pub kept-and-deleted : passed ms ≡ placed 0 (log ++ (END ∷ []))
     kept-and-deleted = Repaired.passed-log log run
 
-    -- There are no edits exactly when the log was correct.
+    -- Demand 2: there are no edits exactly when the log was correct.
     pub no-edits-exactly-when-correct : (edits ms ≡ []) ↔ Derives (RuleOf ws) (START ∷ []) log
     no-edits-exactly-when-correct = (
       λ none.
@@ -165,17 +165,21 @@ nothing-moved-in-error ws = (
 -- ---- "Two answers allowed by it are shown equal": the verdict, the reader's answer, the parser's and the report's, with
 -- every word of their buffers, for all inputs and all refusals
 
+-- The verdict is one.
 pub verdict-unique : {ws : List ℕ} {o q : Option Refusal} → Verdict ws o → Verdict ws q → o ≡ q
 verdict-unique v w = Determined.verdict-unique v w
 
+-- The reader's answer and its buffer are one.
 pub file-read-unique : {bytes : List ℕ} {room : ℕ} {a b : Outcome ℕ} {x y : List ℕ} → FileRead bytes room a x
     → FileRead bytes room b y → (a ≡ b) × (x ≡ y)
 file-read-unique p q = Determined.file-read-unique p q
 
+-- The parser's answer and its two buffers are one.
 pub parsed-unique : {ws log : List ℕ} {editRoom ruleRoom : ℕ} {a b : Outcome Counts} {x y u v : List ℕ}
     → Parsed ws log editRoom ruleRoom a x u → Parsed ws log editRoom ruleRoom b y v → (a ≡ b) × (x ≡ y) × (u ≡ v)
 parsed-unique p q = Answers.parsed-unique p q
 
+-- The report's answer and its two buffers are one.
 pub reported-unique : {ws log ticks : List ℕ} {editRoom ruleRoom : ℕ} {a b : Outcome Report} {x y u v : List ℕ}
     → Reported ws log ticks editRoom ruleRoom a x u → Reported ws log ticks editRoom ruleRoom b y v → (a ≡ b) × (x ≡ y) × (u ≡ v)
 reported-unique p q = Answers.reported-unique p q

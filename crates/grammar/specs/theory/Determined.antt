@@ -19,10 +19,12 @@ pub record SameRun (ms ns : List Move) (o q : Option Refusal) : Type 0 where
   pub moves : ms ≡ ns
   pub outcome : o ≡ q
 
+-- Something is not nothing.
 pub some-none : {A : Type 0} {o : Option A} {a : A} → o ≡ none → o ≡ some a → ⊥
 some-none e f = let z : _≡_ {A = ℕ} 0 1 = cc in omega arith
 
 module _ (G : Grammar) (N R : ℕ) (good : Good G N R) (L : Limits) where
+  -- Two runs of one state are one: by induction, each decision being one.
   pub run-determined : {s : State} {ms ns : List Move} {o q : Option Refusal} → Run G L s ms o → Run G L s ns q
       → Live G N (s .stack) (s .rest) → SameRun ms ns o q
   run-determined (Run.ended e f) (Run.ended g h) v = record { moves = refl; outcome = refl }
@@ -46,6 +48,7 @@ module _ (G : Grammar) (N R : ℕ) (good : Good G N R) (L : Limits) where
 
 -- ---- "The lowest applicable number": one, for any conditions
 
+-- The lowest of the refusals that apply is one.
 pub lowest-unique : {Met : Refusal → Type 0} {rs : List Refusal} {o q : Option Refusal} → Lowest Met rs o → Lowest Met rs q → o ≡ q
 lowest-unique Lowest.all-met Lowest.all-met = refl
 lowest-unique (Lowest.applies n) (Lowest.applies m) = refl
@@ -53,6 +56,7 @@ lowest-unique (Lowest.applies n) (Lowest.passes k h) = absurd (n k)
 lowest-unique (Lowest.passes k h) (Lowest.applies n) = absurd (n k)
 lowest-unique (Lowest.passes k h) (Lowest.passes m i) = lowest-unique h i
 
+-- So the verdict is one.
 pub verdict-unique : {ws : List ℕ} {o q : Option Refusal} → Verdict ws o → Verdict ws q → o ≡ q
 verdict-unique v w = lowest-unique v w
 

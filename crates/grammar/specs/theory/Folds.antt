@@ -10,6 +10,7 @@ use Rattle.grammar.specs.Run.{deletes, inserts}
 
 -- ---- The repaired log
 
+-- Of moves one behind another the repaired logs stand one behind another.
 pub repaired-append : (ms ns : List Move) → repaired (ms ++ ns) ≡ repaired ms ++ repaired ns
 unfolding repaired
 repaired-append [] ns = refl
@@ -45,6 +46,7 @@ log-token (suc t) l = refl
 
 -- ---- The tokens passed
 
+-- Of moves one behind another the tokens passed stand one behind another.
 pub passed-append : (ms ns : List Move) → passed (ms ++ ns) ≡ passed ms ++ passed ns
 unfolding passed
 passed-append [] ns = refl
@@ -83,6 +85,7 @@ placed-split p (suc j) (t ∷ ts) l =
 
 -- ---- The edits and the rule numbers
 
+-- Of moves one behind another the edits stand one behind another.
 pub edits-append : (ms ns : List Move) → edits (ms ++ ns) ≡ edits ms ++ edits ns
 unfolding edits
 edits-append [] ns = refl
@@ -116,6 +119,7 @@ edits-correction p r ts Xs ms =
       edits-inserts r Xs,
     )
 
+-- Of moves one behind another the rule numbers stand one behind another.
 pub rules-append : (ms ns : List Move) → ruleNumbers (ms ++ ns) ≡ ruleNumbers ms ++ ruleNumbers ns
 unfolding ruleNumbers
 rules-append [] ns = refl
@@ -149,6 +153,7 @@ unfolding editWords
 edit-words-length [] = refl
 edit-words-length (e ∷ es) = omega (arith, edit-words-length es)
 
+-- Placing keeps the length.
 pub placed-length : (p : ℕ) (ts : List ℕ) → length (placed p ts) ≡ length ts
 unfolding placed
 placed-length p [] = refl

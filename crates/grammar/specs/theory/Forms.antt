@@ -23,13 +23,16 @@ pub record At (G : Grammar) (α : List ℕ) : Type 0 where
 
 -- ---- Ended
 
+-- What has the property, before a list that ends so.
 pub ended-append : {P : ℕ → Type 0} {α β : List ℕ} → All P α → Ended P β → Ended P (α ++ β)
 ended-append All.nothing e = e
 ended-append (All.also h a) e = Ended.also h (ended-append a e)
 
+-- What has the property, before END.
 pub ended-of : {P : ℕ → Type 0} {α : List ℕ} → All P α → Ended P (α ++ (END ∷ []))
 ended-of a = ended-append a (Ended.last refl)
 
+-- Such a list is not empty.
 pub ended-nonempty : {P : ℕ → Type 0} {α : List ℕ} → Ended P α → α ≡ [] → ⊥
 ended-nonempty (Ended.last h) e = cons≢nil e
 ended-nonempty (Ended.also h a) e = cons≢nil e
@@ -44,6 +47,7 @@ ended-tail : {P : ℕ → Type 0} {Y : ℕ} {α : List ℕ} → Ended P (Y ∷ �
 ended-tail (Ended.last h) n = absurd (n refl)
 ended-tail (Ended.also h a) n = a
 
+-- A list with a member is not empty.
 pub some-end : (φ : List ℕ) (X : ℕ) (α : List ℕ) → φ ++ (X ∷ α) ≡ [] → ⊥
 some-end [] X α e = cons≢nil e
 some-end (Y ∷ φ) X α e = cons≢nil e
@@ -55,6 +59,7 @@ ended-rest (Y ∷ φ) {X} {α} e = ended-rest φ (ended-tail e (some-end φ X α
 
 -- ---- The forms of a good grammar
 
+-- The empty list derives itself alone.
 pub der-nil : {R : Rules} {w : List ℕ} → Der R [] w → w ≡ []
 der-nil Der.done = refl
 
@@ -63,6 +68,7 @@ module _ (G : Grammar) (N R : ℕ) (good : Good G N R) where
   pub not-terminal : {p A : ℕ} {β : List ℕ} → G .rules p A β → Terminal A → ⊥
   not-terminal {p = p} {A = A} {β = β} r l = let h = good .left p A β r .0 in omega arith
 
+  -- END derives itself alone.
   pub end-stays : {w : List ℕ} → Der (G .rules) (END ∷ []) w → w ≡ END ∷ []
   end-stays (Der.keep d) = ap (λ l. END ∷ l) (der-nil d)
   end-stays (Der.down r d) = absurd (not-terminal r (omega arith))
@@ -75,6 +81,7 @@ module _ (G : Grammar) (N R : ℕ) (good : Good G N R) where
   ended-der (Der.down r d) (Ended.last h) = absurd (not-terminal r (omega (arith, h)))
   ended-der (Der.down {β = β} r d) (Ended.also h a) = ended-der d (ended-append (good .symbols _ _ β r) a)
 
+  -- The first stack ends with END.
   pub ended-begin : Ended (Inner N) (G .begin)
   ended-begin = subst (λ l. Ended (Inner N) l) (sym (good .begins)) (ended-of (good .inner))
 
@@ -99,17 +106,21 @@ module _ (G : Grammar) (N R : ℕ) (good : Good G N R) where
 
   -- ---- At
 
+  -- The first stack stands in a form,
   pub at-begin : At G (G .begin)
   at-begin = record { front = []; stands = der-refl (G .rules) (G .begin) }
 
+  -- so does what a list that stands in one derives,
   pub at-der : {α γ : List ℕ} → At G α → Der (G .rules) α γ → At G γ
   at-der a d =
       record { front = a .front; stands = der-trans (G .rules) (a .stands) (der-append (G .rules) (der-refl (G .rules) (a .front)) d) }
 
+  -- so does the rest of such a list,
   pub at-rest : (φ : List ℕ) {α : List ℕ} → At G (φ ++ α) → At G α
   at-rest φ {α} a =
       record { front = a .front ++ φ; stands = subst (λ l. Der (G .rules) (G .begin) l) (sym (append-assoc (a .front) φ α)) (a .stands) }
 
+  -- and so does such a list with its head rewritten.
   pub at-down : {p A : ℕ} {β α : List ℕ} → At G (A ∷ α) → G .rules p A β → At G (β ++ α)
   at-down {β = β} {α = α} a r = at-der a (Der.down r (der-refl (G .rules) (β ++ α)))
 
@@ -119,8 +130,10 @@ module _ (G : Grammar) (N R : ℕ) (good : Good G N R) where
       let k = good .reachable A l h in
       (k .rest, record { front = k .front; stands = to-der (G .rules) (k .stands) })
 
+  -- What stands in a form to its end ends with END.
   pub at-ended : {X : ℕ} {α : List ℕ} → At G (X ∷ α) → Ended (Inner N) (X ∷ α)
   at-ended a = ended-rest (a .front) (ended-der (a .stands) ended-begin)
 
+  -- A token that stands behind A in a form is in FOLLOW(A).
   pub at-follow : {A t : ℕ} {γ : List ℕ} → Terminal t → At G (A ∷ t ∷ γ) → Follow (G .rules) (G .begin) A t
   at-follow {γ = γ} l a = record { token = l; front = a .front; rest = γ; stands = of-der (G .rules) (a .stands) }

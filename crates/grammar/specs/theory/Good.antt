@@ -20,6 +20,7 @@ pub data Inner (N X : ℕ) : Type 0 where
   terminal : 1 ≤ X → X < 64 → Inner N X
   nonterminal : 64 ≤ X → X < 64 + N → Inner N X
 
+-- A good grammar, with N nonterminals and right sides of at most R symbols.
 pub record Good (G : Grammar) (N R : ℕ) : Type 0 where
   -- the first stack is `opened` over END
   pub opened : List ℕ
@@ -65,6 +66,7 @@ meets-affordable (Meets.affordable f) = f
 meets-none-shared : {ws : List ℕ} → Meets ws SharedPredict → NoneShared (RuleOf ws) (START ∷ END ∷ [])
 meets-none-shared (Meets.none-shared f) = f
 
+-- They are met one by one.
 pub accepted-by : {ws : List ℕ} → Meets ws BadShape → Meets ws Unreachable → Meets ws NoString → Meets ws TooCostly
     → Meets ws SharedPredict → Accepted ws
 accepted-by a b c d e =
@@ -76,6 +78,7 @@ accepted-by a b c d e =
       none-shared = meets-none-shared e;
     }
 
+-- Accepted words meet all five.
 pub accepted : {ws : List ℕ} → Verdict ws none → Accepted ws
 accepted (Lowest.passes a (Lowest.passes b (Lowest.passes c (Lowest.passes d (Lowest.passes e Lowest.all-met))))) =
     accepted-by a b c d e
@@ -154,8 +157,10 @@ module _ (ws : List ℕ) (a : Accepted ws) where
   pub eight-bounds : (p : ℕ) → p < ruleCount ws → rightSize ws p ≤ 8
   eight-bounds p h = a .shaped .rules p h .size
 
+  -- So R is 8 for every accepted grammar.
   pub good-words : Good (grammarOf ws) (nonterminalCount ws) 8
   good-words = good-within 8 eight-bounds
 
+-- The words of an accepted grammar are a good grammar.
 pub accepted-good : (ws : List ℕ) → Verdict ws none → Good (grammarOf ws) (nonterminalCount ws) 8
 accepted-good ws v = good-words ws (accepted v)

@@ -87,6 +87,7 @@ module _ (G : Grammar) (N R : ℕ) (good : Good G N R) where
       let form = at-nonterminal G N R good A l h in
       one-way G N R good (reach-append (G .rules) f (form .0)) (reach-append (G .rules) g (form .0)) i (form .1) .steps
 
+  -- Every lead shows it.
   pub led : {t : ℕ} {α As : List ℕ} → Lead (G .rules) t α As → Terminal t → Led (G .rules) N t α As
   led (Lead.here {α = α} e) i =
       record {
@@ -137,6 +138,7 @@ module _ (G : Grammar) (N R : ℕ) (good : Good G N R) where
         distinct = below .distinct;
       }
 
+  -- A token that leads down a list is in its FIRST.
   pub lead-first : {t : ℕ} {α As : List ℕ} → Lead (G .rules) t α As → Terminal t → First (G .rules) α t
   lead-first l i = reach-first (G .rules) i (led l i .reach)
 

@@ -147,6 +147,7 @@ module _ (G : Grammar) (N R : ℕ) (good : Good G N R) where
           let here = first-reach (G .rules) f in
           reach-first (G .rules) (f .token) (reach-behind (G .rules) (gone .1) (here .2) (gone .0 + here .0) refl)
 
+  -- Behind a nonterminal END is still to come.
   pub behind-nonterminal : {A : ℕ} {ω : List ℕ} → 64 ≤ A → Ended (Inner N) (A ∷ ω) → Ended (Inner N) ω
   behind-nonterminal l (Ended.last e) = absurd (omega (arith, e))
   behind-nonterminal l (Ended.also h a) = a

@@ -39,20 +39,24 @@ pub record Emptied (R : Rules) (φ α : List ℕ) (n : ℕ) : Type 0 where
   pub sum : n ≡ left + right
 
 module _ (R : Rules) where
+  -- A derivation of a form that begins with t reaches t first.
   pub reached : {t : ℕ} {α γ : List ℕ} → Der R α (t ∷ γ) → Reached R t α γ
   reached (Der.keep {α = α} d) = record { steps = 0; behind = α; reach = Reach.here refl; rest = d }
   reached (Der.down r d) =
       let h = reached d in
       record { steps = suc (h .steps); behind = h .behind; reach = Reach.down r (h .reach); rest = h .rest }
 
+  -- What reaches t derives a form that begins with t.
   pub der-of-reach : {t n : ℕ} {α δ γ : List ℕ} → Reach R t α n δ → Der R δ γ → Der R α (t ∷ γ)
   der-of-reach {t = t} {γ = γ} (Reach.here {α = α} e) d = subst (λ X. Der R (X ∷ α) (t ∷ γ)) (sym e) (Der.keep d)
   der-of-reach (Reach.down r h) d = Der.down r (der-of-reach h d)
 
+  -- What is emptied derives the empty form,
   pub der-of-empties : {n : ℕ} {α : List ℕ} → Empties R α n → Der R α []
   der-of-empties Empties.done = Der.done
   der-of-empties (Empties.down r h) = Der.down r (der-of-empties h)
 
+  -- and the other way round.
   pub empties : {α : List ℕ} → Der R α [] → (n : ℕ) × Empties R α n
   empties Der.done = (0, Empties.done)
   empties (Der.down r d) = let h = empties d in (suc (h .0), Empties.down r (h .1))
@@ -130,9 +134,11 @@ module _ (R : Rules) where
 
   -- ---- FIRST is reaching a terminal
 
+  -- A token in FIRST is reached,
   pub first-reach : {t : ℕ} {α : List ℕ} → First R α t → (n : ℕ) × (δ : List ℕ) × Reach R t α n δ
   first-reach f = let h = reached (to-der R (f .begins)) in (h .steps, h .behind, h .reach)
 
+  -- and a terminal that is reached is in FIRST.
   pub reach-first : {t n : ℕ} {α δ : List ℕ} → Terminal t → Reach R t α n δ → First R α t
   reach-first {δ = δ} l h = record { token = l; rest = δ; begins = of-der R (der-of-reach h (der-refl R δ)) }
 

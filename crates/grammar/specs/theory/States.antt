@@ -34,11 +34,13 @@ choice-some (Choice.expand r f) e = cons≢nil e
 choice-some (Choice.pass f n) e = cons≢nil e
 choice-some (Choice.correct n x) e = cons≢nil e
 
+-- What is left of such a list without its first members is such a list,
 pub ended-drop : {P : ℕ → Type 0} {α : List ℕ} (i : ℕ) → Ended P α → i < length α → Ended P (drop i α)
 ended-drop zero e l = e
 ended-drop (suc i) (Ended.last h) l = absurd (omega arith)
 ended-drop (suc i) (Ended.also h a) l = ended-drop i a (omega arith)
 
+-- and those members have the property.
 pub ended-take : {P : ℕ → Type 0} {α : List ℕ} (i : ℕ) → Ended P α → i < length α → All P (take i α)
 ended-take zero e l = All.nothing
 ended-take (suc i) (Ended.last h) l = absurd (omega arith)

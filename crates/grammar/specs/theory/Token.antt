@@ -47,6 +47,7 @@ drop-by {G = G} (Choice.pass f n) = dropped-empty G f n
 pub expanded-fits : {G : Grammar} {A p t : ℕ} {β σ ρ : List ℕ} → Choice G (A ∷ σ) (t ∷ ρ) (expanding p β) → First (G .rules) (β ++ σ) t
 expanded-fits {G = G} {σ = σ} c = first-append (G .rules) (expand-by c .1) σ
 
+-- So it is behind a drop.
 pub dropped-fits : {G : Grammar} {X t : ℕ} {σ ρ : List ℕ} → Choice G (X ∷ σ) (t ∷ ρ) dropping → First (G .rules) σ t
 dropped-fits c = drop-by c .1
 
