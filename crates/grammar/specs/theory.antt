@@ -27,3 +27,6 @@ pub mod Counted
 pub mod Exists
 pub mod Heights
 pub mod Decided
+pub mod Places
+pub mod Rebuilt
+pub mod Kept

@@ -4,7 +4,7 @@
 -- `ws` are the grammar words, `Verdict ws none` says that they pass the grammar check, `LogFits ws log` that refusal 10 does
 -- not apply, and `RunOf ws log editRoom ruleRoom ms none` that the run of the log made the moves ms and ended.
 use Prim.Native.Nat.{ℕ, _+_, _*_, _≤_, _<_}
-use mathlib.Core.Path.{_≡_, refl, sym, subst}
+use mathlib.Core.Path.{_≡_, refl, sym, ap, subst}
 use mathlib.Core.Logic.{_↔_}
 use mathlib.Core.List.{List, [], _∷_, _++_, append-nil, cons≢nil}
 use mathlib.Core.Option.{Option, none}
@@ -13,10 +13,11 @@ use Rattle.grammar.specs.Words.{START, END, nonterminalCount, ruleCount,
 use Rattle.grammar.specs.Derivation.{Rules, Step, Derives, All, First, Follow, CanBeEmpty, Yields}
 use Rattle.grammar.specs.Cost.{ListCost}
 use Rattle.grammar.specs.Grammar.{RuleOf, Reliable, Verdict, grammarOf}
-use Rattle.grammar.specs.Moves.{Move, edits, repaired, passed, placed}
+use Rattle.grammar.specs.Buffers.{filled}
+use Rattle.grammar.specs.Moves.{Move, Edit, edits, editWords, repaired, passed, placed}
 use Rattle.grammar.specs.Run.{Plausible, Hit, Choice, expanding, dropping, correcting}
 use Rattle.grammar.specs.Run.{State, Limits, started, LogFits, RunOf, Counts, Parsed}
-use Rattle.grammar.specs.Refusals.{Outcome}
+use Rattle.grammar.specs.Refusals.{Outcome, given}
 use Rattle.grammar.specs.File.{FileRead}
 use Rattle.grammar.specs.Pace.{Reported}
 use Rattle.grammar.specs.declared.Refusal.{Refusal}
@@ -37,6 +38,8 @@ use Rattle.grammar.specs.theory.Filled as Filling
 use Rattle.grammar.specs.theory.Filled.{Filled}
 use Rattle.grammar.specs.theory.Correct as Correct
 use Rattle.grammar.specs.theory.Bounded as Bounded
+use Rattle.grammar.specs.theory.Rebuilt.{rebuilt, rebuilt-repaired}
+use Rattle.grammar.specs.theory.Kept.{parsed-made}
 
 -- ---- The grammar
 
@@ -128,6 +131,38 @@ module _ (ws log : List ℕ) (passes : Verdict ws none) (fits : LogFits ws log) 
           Correct.no-edits-when-correct (grammarOf ws) (nonterminalCount ws) 8 good tokens run
           (subst (λ l. Derives (RuleOf ws) l log) (sym opened) correct),
     )
+
+-- ---- The same, of the parser's own answer: what stands in the edit buffer when it answers with counts
+
+pub record Kept (ws log : List ℕ) (editRoom : ℕ) (counts : Counts) (editBuffer : List ℕ) : Type 0 where
+  -- the records in the buffer, as many as the answer says, and zeros behind them
+  pub records : List Edit
+  pub buffer : editBuffer ≡ filled editRoom (editWords records)
+  pub count : counts .records ≡ length records
+  -- "The log without deleted tokens and with inserted symbols put before place r" follows from START.
+  pub derivable : Derives (RuleOf ws) (START ∷ []) (rebuilt log records)
+  -- There are no records exactly when the log was correct.
+  pub none-when-correct : (records ≡ []) ↔ Derives (RuleOf ws) (START ∷ []) log
+  -- The moves are bounded.
+  pub bounded : (R : ℕ) → ((p : ℕ) → p < ruleCount ws → rightSize ws p ≤ R)
+      → counts .moves ≤ 2 + length log + R * nonterminalCount ws * length log
+
+pub parse-keeps : {ws log : List ℕ} {editRoom ruleRoom : ℕ} {counts : Counts} {x y : List ℕ}
+    → Parsed ws log editRoom ruleRoom (given counts) x y → Kept ws log editRoom counts x
+parse-keeps {ws} {log} p =
+    let m = parsed-made p in
+    record {
+      records = edits (m .moves);
+      buffer = m .edits-left;
+      count = ap (λ (c : Counts). c .records) (m .counted);
+      derivable =
+          subst (λ l. Derives (RuleOf ws) (START ∷ []) l) (rebuilt-repaired log (m .run))
+          (repaired-derivable ws log (m .verdict) (m .fits) (m .run));
+      none-when-correct = no-edits-exactly-when-correct ws log (m .verdict) (m .fits) (m .run);
+      bounded = λ R b.
+          subst (λ n. n ≤ 2 + length log + R * nonterminalCount ws * length log) (sym (ap (λ (c : Counts). c .moves) (m .counted)))
+          (moves-bounded ws log (m .verdict) (m .fits) R b (m .run));
+    }
 
 -- ---- A correction, which deletes j tokens and inserts i symbols at stack σ and rest ρ of the log
 
