@@ -1,8 +1,7 @@
 -- Document 01: "All these sets are defined by derivations, not by the program that finds them."
 -- A grammar is abstract here: a relation R, in which `R p A β` says that rule p rewrites A to β.
-use Prim.Native.Nat.{ℕ, _<_}
+use Prim.Native.Nat.{ℕ}
 use mathlib.Core.Path.{_≡_}
-use mathlib.Core.Logic.{_⊎_}
 use mathlib.Core.List.{List, [], _∷_, _++_}
 use Rattle.grammar.specs.Words.{Terminal}
 

@@ -2,12 +2,11 @@
 use Prim.Native.Nat.{ℕ, zero, suc, _+_, _-_, _*_, _%_, _≤_, _<_}
 use mathlib.Core.Path.{_≡_}
 use mathlib.Core.List.{List, [], _∷_, List·Memᴰ}
-use mathlib.Core.Logic.{_⊎_}
 use lib.ListN.{length, getD}
 use lib.Ieee.{div, ofInt, binary64}
 use lib.IntN.{pos}
 use Rattle.grammar.specs.Words.{opening, closing, tickUnit}
-use Rattle.grammar.specs.Moves.{Move, Edit, edits}
+use Rattle.grammar.specs.Moves.{Move, edits}
 use Rattle.grammar.specs.Refusals.{Outcome, given, refused}
 use Rattle.grammar.specs.Grammar.{Meets}
 use Rattle.grammar.specs.Run.{LogFits, parseRefusals, RunOf, Settled, editsLeft, rulesLeft}
@@ -103,7 +102,8 @@ pub data Reports (ws ticks : List ℕ) : Outcome (List Move) → Outcome Report 
   unpaced : {r : Refusal} → Reports ws ticks (refused r) (refused r)
 
 -- The report's answer and the two buffers: it "runs the parse itself" and leaves in them what the parse leaves.
-pub record Reported (ws log ticks : List ℕ) (editRoom ruleRoom : ℕ) (answer : Outcome Report) (editBuffer ruleBuffer : List ℕ) : Type 0 where
+pub record Reported (ws log ticks : List ℕ) (editRoom ruleRoom : ℕ) (answer : Outcome Report)
+    (editBuffer ruleBuffer : List ℕ) : Type 0 where
   pub outcome : Outcome (List Move)
   pub settled : Settled (PaceMeets ws log ticks) parseRefusals (RunOf ws log editRoom ruleRoom) outcome
   pub reports : Reports ws ticks outcome answer

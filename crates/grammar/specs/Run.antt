@@ -1,8 +1,8 @@
 -- Document 01, "Moves" and refusals 10 to 12: the run of a log, and what the parser answers and leaves.
 -- The run is one decision, repeated; a correction is one decision with all its deletes and inserts.
-use Prim.Native.Nat.{ℕ, zero, suc, _+_, _*_, _≤_, _<_}
+use Prim.Native.Nat.{ℕ, _+_, _*_, _≤_, _<_}
 use mathlib.Core.Path.{_≡_}
-use mathlib.Core.Bool.{Bool, cond}
+use mathlib.Core.Bool.{cond}
 use mathlib.Core.List.{List, [], _∷_, _++_, tail}
 use mathlib.Core.Option.{Option, none, some}
 use lib.ListN.{length, getD, take, drop}
@@ -12,7 +12,7 @@ use Rattle.grammar.specs.Derivation.{First}
 use Rattle.grammar.specs.Cost.{ListCost}
 use Rattle.grammar.specs.Grammar.{Grammar, grammarOf, Meets, grammarRefusals}
 use Rattle.grammar.specs.Buffers.{filled, cleared}
-use Rattle.grammar.specs.Moves.{Move, Edit, edits, editWords, ruleNumbers}
+use Rattle.grammar.specs.Moves.{Move, edits, editWords, ruleNumbers}
 use Rattle.grammar.specs.Refusals.{Lowest, Outcome, given, refused}
 use Rattle.grammar.specs.declared.Refusal.{Refusal}
 use Rattle.grammar.specs.declared.Refusal.the-variants.{BadLog, StackFull, NoRoom}
@@ -158,7 +158,8 @@ abbrev pub parseRefusals : List Refusal
 parseRefusals = grammarRefusals ++ (BadLog ∷ [])
 
 -- What a run comes to: its moves; or the lowest refusal that applies before it; or the refusal that it meets.
-pub data Settled (Met : Refusal → Type 0) (rs : List Refusal) (Runs : List Move → Option Refusal → Type 0) : Outcome (List Move) → Type 0 where
+pub data Settled (Met : Refusal → Type 0) (rs : List Refusal) (Runs : List Move → Option Refusal → Type 0) : Outcome (List Move)
+    → Type 0 where
   whole : {ms : List Move} → Lowest Met rs none → Runs ms none → Settled Met rs Runs (given ms)
   before : {r : Refusal} → Lowest Met rs (some r) → Settled Met rs Runs (refused r)
   within : {ms : List Move} {r : Refusal} → Lowest Met rs none → Runs ms (some r) → Settled Met rs Runs (refused r)

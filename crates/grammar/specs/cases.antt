@@ -1,3 +1,4 @@
 -- Document 01's twelve cases: one list, one theorem.
 pub mod Cases
+pub mod Compared
 pub mod Twelve

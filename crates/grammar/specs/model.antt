@@ -17,6 +17,7 @@ pub mod Shape
 pub mod Wording
 pub mod Predicts
 pub mod Judge
+pub mod Verdicts
 pub mod Words
 pub mod Parses
 pub mod Cycles

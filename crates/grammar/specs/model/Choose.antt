@@ -1,10 +1,10 @@
 -- The choice of move, by tests: match, the rule that fits, drop, or the search.
-use Prim.Native.Nat.{ℕ, zero, suc, _+_, _≤_, _<_}
-use mathlib.Core.Path.{_≡_, refl, sym, ap, _∙_, subst}
+use Prim.Native.Nat.{ℕ, suc}
+use mathlib.Core.Path.{_≡_, refl, sym, subst}
 use mathlib.Core.Bool.{Bool, true, false, _&&_, cond}
 use mathlib.Core.Option.{Option, none, some}
 use mathlib.Core.List.{List, [], _∷_}
-use mathlib.Core.Logic.{_⊎_, inl, inr, ⊎-elim}
+use mathlib.Core.Logic.{⊎-elim}
 use lib.Dec.{T, eqb, eqb→eq}
 use Rattle.grammar.specs.Words.{Terminal}
 use Rattle.grammar.specs.Derivation.{All, First}
@@ -126,7 +126,8 @@ module _
       by-rule (λ i. subst T q (equal-passes X t i)) (ruleFor D X t (D .rules)) (rule-found D X t (D .rules)) e
 
 -- What the tests choose is the choice.
-pub chosen : {G : Grammar} (D : Tests) (d : Decided G D) (σ rest : List ℕ) (x : Pick) → All (λ Y. SymbolCost (G .rules) (G .price) Y (D .cost Y)) σ
+pub chosen : {G : Grammar} (D : Tests) (d : Decided G D) (σ rest : List ℕ) (x : Pick)
+    → All (λ Y. SymbolCost (G .rules) (G .price) Y (D .cost Y)) σ
     → All Terminal rest → choose D σ rest ≡ some x → Choice G σ rest x
 unfolding choose
 chosen D d [] rest x a b e = absurd (none-some e)

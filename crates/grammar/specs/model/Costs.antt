@@ -1,23 +1,22 @@
 -- The costs of a list of rules: rounds in which each nonterminal takes its cheapest right side. Where a round's table passes
 -- the test `isSettled`, each entry is exactly the cost by derivations.
-use Prim.Native.Nat.{ℕ, zero, suc, _+_, _-_, _≤_, _<_}
-use mathlib.Core.Path.{_≡_, refl, sym, ap, _∙_, subst}
-use mathlib.Core.Bool.{Bool, true, false, _&&_, _||_, cond}
+use Prim.Native.Nat.{ℕ, zero, suc, _+_, _-_}
+use mathlib.Core.Path.{_≡_, refl, sym, subst}
+use mathlib.Core.Bool.{Bool, true, false, cond}
 use mathlib.Core.Option.{Option, none, some}
 use mathlib.Core.List.{List, [], _∷_, _++_, map}
 use mathlib.Core.Logic.{_⊎_, inl, inr, ⊎-elim}
 use native.Mathlib.Omega.{arith}
-use lib.ListN.{length, getD}
-use lib.Dec.{T, eqb, eqb→eq, ltb, ltb→lt, lt→ltb, leb, leb→le, nltb→le}
-use Rattle.grammar.specs.Words.{Terminal}
+use lib.ListN.{getD}
+use lib.Dec.{T, eqb, eqb→eq, ltb, ltb→lt, leb}
 use Rattle.grammar.specs.Derivation.{All, Yields}
-use Rattle.grammar.specs.Cost.{stringCost, Cheapest, SymbolCost, ListCost}
+use Rattle.grammar.specs.Cost.{stringCost}
 use Rattle.grammar.specs.theory.Leftmost.{Der, der-refl, der-append, to-der, of-der}
-use Rattle.grammar.specs.theory.Closed.{total, ClosedCost, closed-cost, all-append}
+use Rattle.grammar.specs.theory.Closed.{all-append}
 use Rattle.grammar.specs.theory.Pigeonhole.{range}
 use borrow.Author.Tests.{ltb-false}
-use Rattle.grammar.specs.model.Tests.{none-some, some-same, both, left-of, right-of, one-of, or-left, or-right, equal-passes, not-below}
-use Rattle.grammar.specs.model.Ruled.{Rule, RuleAt, Ranged}
+use Rattle.grammar.specs.model.Tests.{none-some, some-same}
+use Rattle.grammar.specs.model.Ruled.{Rule, RuleAt}
 use Rattle.grammar.specs.model.Sets.{rewritten}
 
 -- The sum of two costs, where both are known; the lower of two, where one is.
@@ -134,7 +133,8 @@ module _ (rs : List Rule) (price : ℕ → ℕ) (N : ℕ) where
   unfolding costBy stringCost
   table-sound f s X c e = go (ltb X 64) refl e
     where
-      go : (b : Bool) → ltb X 64 ≡ b → cond b (some (price X)) (getD (map f (range 64 N)) (X - 64) none) ≡ some c → Affords rs price (X ∷ []) c
+      go : (b : Bool) → ltb X 64 ≡ b → cond b (some (price X)) (getD (map f (range 64 N)) (X - 64) none) ≡ some c
+          → Affords rs price (X ∷ []) c
       go true q k =
           record {
             string = X ∷ [];

@@ -1,31 +1,15 @@
 -- The clean cycles of a list of moves, by trying each pair of kept places. Where they come out in order, they are exactly
 -- document 01's.
-use Prim.Native.Nat.{ℕ, zero, suc, _+_, _≤_, _<_}
+use Prim.Native.Nat.{ℕ, _<_}
 use mathlib.Core.Path.{_≡_, refl, sym, ap, _∙_, subst}
 use mathlib.Core.Bool.{Bool, true, false, _&&_, _||_, not, cond}
-use mathlib.Core.List.{
-  List,
-  [],
-  _∷_,
-  _++_,
-  map,
-  List·Memᴰ,
-  List·Memᴰ·head,
-  List·Memᴰ·tail,
-  List·Memᴰ·cases-cons,
-  List·Memᴰ·not-nil,
-  Memᴰ·cast,
-  Memᴰ·append-left,
-  Memᴰ·append-right,
-  List·Memᴰ·append-cases,
-}
+use mathlib.Core.List.{List, [], _∷_, _++_, List·Memᴰ, List·Memᴰ·head, List·Memᴰ·tail, List·Memᴰ·cases-cons, List·Memᴰ·not-nil, Memᴰ·cast, Memᴰ·append-left, Memᴰ·append-right}
 use mathlib.Core.Logic.{_⊎_, inl, inr, ⊎-elim}
 use native.Mathlib.Omega.{arith}
 use lib.Dec.{T, leb, ltb, ltb→lt, eqb, eqb→eq, not-T, T-not}
-use Rattle.grammar.specs.Derivation.{All}
 use Rattle.grammar.specs.Moves.{Move, Edit, edits}
-use Rattle.grammar.specs.Pace.{Kept, Edited, Span, Cycle, Clean, Ascending, CleanCycles}
-use Rattle.grammar.specs.model.Tests.{both, left-of, right-of, one-of, or-left, or-right, equal-passes, every, every-all, all-every, passes-or-not}
+use Rattle.grammar.specs.Pace.{Kept, Span, Cycle, Clean, Ascending, CleanCycles}
+use Rattle.grammar.specs.model.Tests.{both, left-of, right-of, one-of, or-left, or-right, equal-passes, every, every-all, all-every}
 use Rattle.grammar.specs.model.Sets.{all-at, all-by}
 use Rattle.grammar.specs.model.Reflects.{Reflects, le-test, lt-test, and-test, iff-test}
 
@@ -255,5 +239,6 @@ clean-cycles o c ms h =
           sift-in (λ u. isClean o c ms (u .opened) (u .closed)) (pairs (keptPlaces ms) (keptPlaces ms)) s
           (pair (keptPlaces ms) (kept-place ms (s .opened) o (y .cycle .opens)) (kept-place ms (s .closed) c (y .cycle .closes)))
           (clean-test o c ms s .said y);
-      only = λ s m. clean-test o c ms s .says (sift-out (λ u. isClean o c ms (u .opened) (u .closed)) (pairs (keptPlaces ms) (keptPlaces ms)) s m);
+      only = λ s m. clean-test o c ms s .says (sift-out (λ u. isClean o c ms (u .opened) (u .closed)) (pairs (keptPlaces ms)
+          (keptPlaces ms)) s m);
     }

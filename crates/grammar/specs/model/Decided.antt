@@ -1,15 +1,14 @@
 -- A grammar with tests for what a run asks of it: FIRST of a list, the cost of a symbol, and the reliability.
-use Prim.Native.Nat.{ℕ, zero, suc, _+_, _≤_, _<_}
-use mathlib.Core.Path.{_≡_, refl, sym, ap, _∙_, subst}
-use mathlib.Core.Bool.{Bool, true, false, _&&_}
-use mathlib.Core.List.{List, [], _∷_, _++_, append-nil, head-eq-of-cons-eq}
+use Prim.Native.Nat.{ℕ}
+use mathlib.Core.Path.{_≡_, refl, sym, subst}
+use mathlib.Core.Bool.{Bool}
+use mathlib.Core.List.{List, [], _∷_, append-nil, head-eq-of-cons-eq}
 use mathlib.Core.Logic.{_⊎_, inl, inr, ⊎-elim}
 use native.Mathlib.Omega.{arith}
-use lib.ListN.{length, getD, take}
 use lib.Dec.{T}
-use Rattle.grammar.specs.Words.{Terminal, END}
+use Rattle.grammar.specs.Words.{Terminal}
 use Rattle.grammar.specs.Derivation.{Rules, All, First}
-use Rattle.grammar.specs.Cost.{Cheapest, SymbolCost, ListCost}
+use Rattle.grammar.specs.Cost.{SymbolCost, ListCost}
 use Rattle.grammar.specs.Grammar.{Grammar}
 use Rattle.grammar.specs.theory.Closed.{total}
 use Rattle.grammar.specs.theory.Leftmost.{Der, to-der, of-der}
@@ -44,7 +43,8 @@ symbol-cost-unique (SymbolCost.nonterminal l a) (SymbolCost.nonterminal m b) =
     omega (arith, a .least (b .string) (b .yields), b .least (a .string) (a .yields), a .costs, b .costs)
 
 -- The cost of a list of known symbols is the sum over them,
-pub list-cost : {R : Rules} {price cost : ℕ → ℕ} {α : List ℕ} → All (λ X. SymbolCost R price X (cost X)) α → ListCost R price α (total cost α)
+pub list-cost : {R : Rules} {price cost : ℕ → ℕ} {α : List ℕ} → All (λ X. SymbolCost R price X (cost X)) α
+    → ListCost R price α (total cost α)
 unfolding total
 list-cost All.nothing = ListCost.nothing
 list-cost (All.also h a) = ListCost.also h (list-cost a) refl

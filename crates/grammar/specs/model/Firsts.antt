@@ -1,15 +1,15 @@
 -- FIRST of a list of rules, by rounds for one token, proved to be exactly FIRST by derivations.
-use Prim.Native.Nat.{ℕ, zero, suc, _+_, _≤_, _<_}
-use mathlib.Core.Path.{_≡_, refl, sym, ap, _∙_, subst}
-use mathlib.Core.Bool.{Bool, true, false, _&&_, _||_}
+use Prim.Native.Nat.{ℕ}
+use mathlib.Core.Path.{refl, sym, subst}
+use mathlib.Core.Bool.{Bool, false, _&&_, _||_}
 use mathlib.Core.List.{List, [], _∷_, _++_}
-use mathlib.Core.Logic.{_⊎_, inl, inr, ⊎-elim}
+use mathlib.Core.Logic.{⊎-elim}
 use lib.Dec.{T, eqb, eqb→eq}
 use Rattle.grammar.specs.Words.{Terminal}
 use Rattle.grammar.specs.Derivation.{All, First}
 use Rattle.grammar.specs.theory.Leftmost.{Der, der-refl, der-append, to-der, of-der}
 use Rattle.grammar.specs.theory.Closed.{ClosedFirst, closed-first, Begins}
-use Rattle.grammar.specs.model.Tests.{holds, holds-member, both, left-of, right-of, one-of, or-left, or-right, equal-passes, passes-or-not}
+use Rattle.grammar.specs.model.Tests.{holds, holds-member, both, left-of, right-of, one-of, or-left, or-right, equal-passes}
 use Rattle.grammar.specs.model.Ruled.{Rule, RuleAt, Ranged, someRule, passing, some-rule}
 use Rattle.grammar.specs.model.Sets.{all-at, grown, grown-closed, grown-sound, nulls, null-sound, null-closed, rewritten}
 

@@ -1,20 +1,34 @@
 -- FOLLOW of a list of rules, by rounds for one token, proved to be exactly FOLLOW by derivations where every left side is
 -- reachable; and from it the predict test.
-use Prim.Native.Nat.{ℕ, zero, suc, _+_, _≤_, _<_}
+use Prim.Native.Nat.{ℕ, _+_, _≤_, _<_}
 use mathlib.Core.Path.{_≡_, refl, sym, ap, _∙_, subst}
-use mathlib.Core.Bool.{Bool, true, false, _&&_, _||_}
+use mathlib.Core.Bool.{Bool, false, _&&_, _||_}
 use mathlib.Core.List.{List, [], _∷_, _++_, append-nil, List·Memᴰ, List·Memᴰ·head, List·Memᴰ·tail}
 use mathlib.Core.Logic.{_⊎_, inl, inr, ⊎-elim}
 use native.Mathlib.Omega.{arith}
-use lib.Dec.{T, eqb, eqb→eq, ltb, ltb→lt, lt→ltb}
+use lib.Dec.{T, eqb, eqb→eq, ltb, lt→ltb}
 use Rattle.grammar.specs.Words.{Terminal, RuleSymbol}
-use Rattle.grammar.specs.Derivation.{All, Derives, First, Follow, Reachable, Predict}
+use Rattle.grammar.specs.Derivation.{All, Follow, Reachable}
 use Rattle.grammar.specs.theory.Leftmost.{Der, der-refl, der-append, der-trans, to-der, of-der}
 use Rattle.grammar.specs.theory.Closed.{ClosedFollow, closed-follow, Followed, followed-at, Begins}
-use Rattle.grammar.specs.model.Tests.{holds, holds-member, both, left-of, right-of, one-of, or-left, or-right, equal-passes, not-below, every, every-all, all-every}
+use Rattle.grammar.specs.model.Tests.{
+  holds,
+  holds-member,
+  both,
+  left-of,
+  right-of,
+  one-of,
+  or-left,
+  or-right,
+  equal-passes,
+  not-below,
+  every,
+  every-all,
+  all-every,
+}
 use Rattle.grammar.specs.model.Ruled.{Rule, RuleAt, Ranged, someRule, passing, some-rule}
-use Rattle.grammar.specs.model.Sets.{all-at, all-map, grown, grown-closed, grown-sound, nulls, null-sound, null-closed, nulls-complete, each-empty, opened}
-use Rattle.grammar.specs.model.Firsts.{begins, begins-say, say-begins, starts, firsts, isFirst, first-sound, first-complete, firsts-closed}
+use Rattle.grammar.specs.model.Sets.{all-at, all-map, grown, grown-closed, grown-sound, nulls, null-sound, null-closed, each-empty, opened}
+use Rattle.grammar.specs.model.Firsts.{begins, say-begins, starts, firsts, isFirst, first-sound, firsts-closed}
 
 -- B stands in the list with the token right behind it; e says that the token stands behind the list.
 unfoldable pub behind : (ℕ → Bool) → (ℕ → Bool) → Bool → List ℕ → ℕ → Bool
@@ -147,7 +161,8 @@ module _ (rs : List Rule) (N t : ℕ) (σ : List ℕ) (l : Terminal t) where
           (λ k. at-start x (stands (holds ns) (starts t fs) false σ x k))
           (λ k.
           let i = passing (λ A β. behind (holds ns) (starts t fs) (holds s A) β x) rs k in
-          in-rule s x (i .number) (i .left) (i .right) a (i .rule) (stands (holds ns) (starts t fs) (holds s (i .left)) (i .right) x (i .passes)))
+          in-rule s x (i .number) (i .left) (i .right) a (i .rule) (stands (holds ns) (starts t fs) (holds s (i .left)) (i .right) x
+          (i .passes)))
           (one-of (behind (holds ns) (starts t fs) false σ x) (someRule (λ A β. behind (holds ns) (starts t fs) (holds s A) β x) rs) h)
 
   -- A terminal, or followed by t by the test.

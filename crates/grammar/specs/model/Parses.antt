@@ -1,28 +1,27 @@
 -- What a log comes to by the words, by tests: the lowest refusal before the run, or the run. `Met` stands for the parser's
 -- conditions or the report's, which differ only under refusal 10.
-use Prim.Native.Nat.{ℕ, zero, suc, _+_, _*_, _≤_, _<_}
+use Prim.Native.Nat.{ℕ, zero, suc, _+_, _*_, _<_}
 use mathlib.Core.Path.{_≡_, refl, sym, ap, _∙_, subst}
 use mathlib.Core.Bool.{Bool, true, false, _&&_}
 use mathlib.Core.Option.{Option, none, some}
 use mathlib.Core.List.{List, [], _∷_, _++_, List·Memᴰ, List·Memᴰ·head, List·Memᴰ·tail, List·Memᴰ·cases-cons, List·Memᴰ·not-nil}
-use mathlib.Core.Logic.{_⊎_, inl, inr, ⊎-elim}
+use mathlib.Core.Logic.{_⊎_, ⊎-elim}
 use native.Mathlib.Omega.{arith}
 use lib.ListN.{length, getD}
 use lib.Dec.{T, leb, leb→le, le→leb, ltb, ltb→lt, lt→ltb}
 use Rattle.grammar.specs.Words.{END, START, Shaped, terminalCount, nonterminalCount}
 use Rattle.grammar.specs.Derivation.{All}
-use Rattle.grammar.specs.Grammar.{Meets, grammarRefusals, grammarOf, Verdict}
+use Rattle.grammar.specs.Grammar.{Meets, grammarRefusals, Verdict}
 use Rattle.grammar.specs.Moves.{Move}
-use Rattle.grammar.specs.Run.{LogFits, parseRefusals, RunOf, Settled, Limits, started}
+use Rattle.grammar.specs.Run.{LogFits, parseRefusals, RunOf, Settled, started}
 use Rattle.grammar.specs.Refusals.{Lowest, Outcome, given, refused, numberOf}
 use Rattle.grammar.specs.declared.Refusal.{Refusal}
-use Rattle.grammar.specs.declared.Refusal.the-variants.{BadShape, Unreachable, NoString, TooCostly, SharedPredict, BadLog}
+use Rattle.grammar.specs.declared.Refusal.the-variants.{BadLog}
 use Rattle.grammar.specs.model.Tests.{none-some, some-same, both, left-of, right-of, every, every-all, all-every}
-use Rattle.grammar.specs.model.Sets.{all-at, all-map}
-use Rattle.grammar.specs.model.Reflects.{Reflects, iff-test}
+use Rattle.grammar.specs.model.Reflects.{Reflects}
 use Rattle.grammar.specs.model.Wording.{all-index}
-use Rattle.grammar.specs.model.Shape.{isShaped, shape-test}
-use Rattle.grammar.specs.model.Judge.{verdictOf, judged, costsReady, accepted-ready}
+use Rattle.grammar.specs.model.Judge.{costsReady}
+use Rattle.grammar.specs.model.Verdicts.{verdictOf, judged, accepted-ready}
 use Rattle.grammar.specs.model.Words.{testsOf, decided}
 use Rattle.grammar.specs.model.Runs.{Done, runs, ran}
 
@@ -49,7 +48,8 @@ log-test ws log =
           let a = every-all token log (right-of (leb (length log) 4096) (every token log) h) in
           record {
             count = leb→le (length log) 4096 (left-of (leb (length log) 4096) (every token log) h);
-            low = λ i l. leb→le 1 (getD log i END) (left-of (leb 1 (getD log i END)) (ltb (getD log i END) (terminalCount ws)) (at-index a i l));
+            low = λ i l. leb→le 1 (getD log i END) (left-of (leb 1 (getD log i END)) (ltb (getD log i END) (terminalCount ws))
+                (at-index a i l));
             high = λ i l.
                 ltb→lt (getD log i END) (terminalCount ws)
                 (right-of (leb 1 (getD log i END)) (ltb (getD log i END) (terminalCount ws)) (at-index a i l));
@@ -145,7 +145,8 @@ module _ (ws log : List ℕ) (eR rR : ℕ) (Met : Refusal → Type 0) (x : Exten
   by-run c l none r e = absurd (none-some e)
   by-run c l (some d) r e = subst (Settled Met parseRefusals (RunOf ws log eR rR)) (some-same e) (ended (d .end) l (r d refl))
 
-  by-log : (c : Outcome (List Move)) → Lowest (Meets ws) grammarRefusals none → Shaped ws → T (costsReady ws) → (b : Bool) → Reflects b (Met BadLog)
+  by-log : (c : Outcome (List Move)) → Lowest (Meets ws) grammarRefusals none → Shaped ws → T (costsReady ws) → (b : Bool)
+      → Reflects b (Met BadLog)
       → byLog ws log eR rR b ≡ some c → Settled Met parseRefusals (RunOf ws log eR rR) c
   unfolding byLog firstOf
   by-log c l s ready true t e =

@@ -1,18 +1,18 @@
 -- Predict sets and "no two rules of one nonterminal share a predict token", by tests over the tokens below T.
-use Prim.Native.Nat.{ℕ, zero, suc, _+_, _≤_, _<_}
-use mathlib.Core.Path.{_≡_, refl, sym, ap, _∙_, subst, subst₂}
-use mathlib.Core.Bool.{Bool, true, false, _&&_, _||_, not}
-use mathlib.Core.List.{List, [], _∷_, _++_, List·Memᴰ, List·Memᴰ·head, List·Memᴰ·tail}
+use Prim.Native.Nat.{ℕ, suc, _+_, _≤_, _<_}
+use mathlib.Core.Path.{_≡_, refl, sym, ap, subst, subst₂}
+use mathlib.Core.Bool.{Bool, true, _&&_, _||_, not}
+use mathlib.Core.List.{List, [], _∷_, List·Memᴰ·head, List·Memᴰ·tail}
 use mathlib.Core.Logic.{_⊎_, inl, inr, ⊎-elim}
 use native.Mathlib.Omega.{arith}
 use lib.Dec.{T, eqb, eqb→eq, T-not, not-T}
 use Rattle.grammar.specs.Words.{Terminal, RuleSymbol}
-use Rattle.grammar.specs.Derivation.{All, First, Follow, Reachable, Predict, NoneShared}
+use Rattle.grammar.specs.Derivation.{All, Reachable, Predict, NoneShared}
 use Rattle.grammar.specs.theory.Leftmost.{Der, to-der, of-der}
-use Rattle.grammar.specs.theory.Closed.{closed-down, ClosedDown, all-rest}
+use Rattle.grammar.specs.theory.Closed.{closed-down, all-rest}
 use Rattle.grammar.specs.theory.Pigeonhole.{range}
-use Rattle.grammar.specs.model.Tests.{holds, both, left-of, right-of, one-of, or-left, or-right, equal-passes, every, every-all, all-every, passes-or-not}
-use Rattle.grammar.specs.model.Ruled.{Rule, RuleAt, Ranged, someRule, Passing, passing, some-rule}
+use Rattle.grammar.specs.model.Tests.{holds, both, left-of, right-of, one-of, or-left, or-right, equal-passes, every, every-all, all-every}
+use Rattle.grammar.specs.model.Ruled.{Rule, RuleAt, Ranged, someRule, passing, some-rule}
 use Rattle.grammar.specs.model.Sets.{all-at, all-map, nulls, null-sound, nulls-complete, each-empty}
 use Rattle.grammar.specs.model.Firsts.{begins, starts, firsts, isFirst, first-sound, first-complete}
 use Rattle.grammar.specs.model.Follows.{follows, isFollow, follow-sound, follow-complete}
@@ -103,7 +103,8 @@ module _ (rs : List Rule) (bound N t : ℕ) (σ : List ℕ) (ranged : Ranged rs 
           (λ k. Predict.by-first (first-sound rs N t l β k))
           (λ k.
           Predict.by-follow
-          (of-der _ (each-empty (all-map (null-sound rs N) (every-all (holds ns) β (left-of (every (holds ns) β) (isFollow rs N σ t A) k)))))
+          (of-der _ (each-empty (all-map (null-sound rs N) (every-all (holds ns) β (left-of (every (holds ns) β)
+          (isFollow rs N σ t A) k)))))
           (follow-sound rs N t σ l reach A (right-of (every (holds ns) β) (isFollow rs N σ t A) k)))
           (one-of a b h)
 

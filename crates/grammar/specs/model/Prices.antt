@@ -1,23 +1,21 @@
 -- A table of costs that no rule can lower holds exactly the costs by derivations.
-use Prim.Native.Nat.{ℕ, zero, suc, _+_, _-_, _≤_, _<_}
-use mathlib.Core.Path.{_≡_, refl, sym, ap, _∙_, subst}
-use mathlib.Core.Bool.{Bool, true, false, cond}
+use Prim.Native.Nat.{ℕ, _≤_}
+use mathlib.Core.Path.{_≡_, refl, ap}
+use mathlib.Core.Bool.{Bool, false}
 use mathlib.Core.Option.{Option, none, some}
-use mathlib.Core.List.{List, [], _∷_, _++_}
-use mathlib.Core.Logic.{_⊎_, inl, inr, ⊎-elim}
+use mathlib.Core.List.{List, [], _∷_}
 use native.Mathlib.Omega.{arith}
-use lib.ListN.{length, getD}
-use lib.Dec.{T, leb, leb→le, ltb}
+use lib.Dec.{T, leb, leb→le}
 use borrow.Author.Tests.{lt-ltb}
 use native.Mathlib.Nat.{le-of-eq}
 use Rattle.grammar.specs.Words.{Terminal}
-use Rattle.grammar.specs.Derivation.{Rules, All, Yields}
-use Rattle.grammar.specs.Cost.{stringCost, Cheapest, SymbolCost, ListCost}
+use Rattle.grammar.specs.Derivation.{Rules}
+use Rattle.grammar.specs.Cost.{Cheapest}
 use Rattle.grammar.specs.theory.Leftmost.{to-der}
 use Rattle.grammar.specs.theory.Closed.{total, ClosedCost, closed-cost}
-use Rattle.grammar.specs.model.Tests.{none-some, some-same}
+use Rattle.grammar.specs.model.Tests.{some-same}
 use Rattle.grammar.specs.model.Ruled.{Rule, RuleAt, everyRule, every-rule}
-use Rattle.grammar.specs.model.Costs.{plus, plus-some, costBy, sumBy, rounds, rounds-sound, Affords}
+use Rattle.grammar.specs.model.Costs.{plus-some, costBy, sumBy, rounds, rounds-sound}
 
 -- Both are known, and the first is no more than the second.
 unfoldable pub atMost : Option ℕ → Option ℕ → Bool

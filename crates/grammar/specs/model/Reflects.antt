@@ -2,12 +2,22 @@
 use Prim.Native.Nat.{ℕ, _+_, _≤_, _<_}
 use mathlib.Core.Path.{_≡_}
 use mathlib.Core.Bool.{Bool, _&&_, _||_}
-use mathlib.Core.List.{List, List·Memᴰ}
 use mathlib.Core.Logic.{_⊎_, inl, inr, ⊎-elim}
 use lib.Dec.{T, leb, leb→le, le→leb, ltb, ltb→lt, lt→ltb, eqb, eqb→eq}
-use Rattle.grammar.specs.Derivation.{All}
 use Rattle.grammar.specs.theory.Pigeonhole.{range, range-member, range-within}
-use Rattle.grammar.specs.model.Tests.{both, left-of, right-of, one-of, or-left, or-right, equal-passes, every, every-all, all-every, passes-or-not}
+use Rattle.grammar.specs.model.Tests.{
+  both,
+  left-of,
+  right-of,
+  one-of,
+  or-left,
+  or-right,
+  equal-passes,
+  every,
+  every-all,
+  all-every,
+  passes-or-not,
+}
 use Rattle.grammar.specs.model.Sets.{all-at, all-by}
 
 pub record Reflects (b : Bool) (P : Type 0) : Type 0 where

@@ -1,13 +1,10 @@
 -- The run, by choosing again and again: where the model comes to an end, it made document 01's run.
-use Prim.Native.Nat.{ℕ, zero, suc, _+_}
-use mathlib.Core.Path.{_≡_, refl, sym, ap, _∙_, subst}
+use Prim.Native.Nat.{ℕ, zero, suc}
+use mathlib.Core.Path.{_≡_, refl, sym, subst}
 use mathlib.Core.Bool.{Bool, true, false, _&&_}
 use mathlib.Core.Option.{Option, none, some}
 use mathlib.Core.List.{List, [], _∷_, _++_}
 use lib.Dec.{T, ltb, ltb→lt}
-use Rattle.grammar.specs.Words.{Terminal}
-use Rattle.grammar.specs.Derivation.{All}
-use Rattle.grammar.specs.Cost.{SymbolCost}
 use Rattle.grammar.specs.Grammar.{Grammar}
 use Rattle.grammar.specs.Moves.{Move}
 use Rattle.grammar.specs.Run.{State, Limits, Pick, made, next, deletes, inserts, limit, Choice, Run}
@@ -97,7 +94,8 @@ module _ {G : Grammar} (D : Tests) (d : Decided G D) (L : Limits) (rec : State �
       by-choice f (choose D (s .stack) (s .rest))
       (λ x. chosen D d (s .stack) (s .rest) x (all-map (d .costs) a) (all-map (λ t. ltb→lt t 64) b)) e
 
-  by-end : (f : Done) (b : Bool) → (isEmpty (s .stack) && isEmpty (s .rest)) ≡ b → byEnd D rec L s b ≡ some f → Run G L s (f .moves) (f .end)
+  by-end : (f : Done) (b : Bool) → (isEmpty (s .stack) && isEmpty (s .rest)) ≡ b → byEnd D rec L s b ≡ some f
+      → Run G L s (f .moves) (f .end)
   unfolding byEnd
   by-end f true q e =
       let h : T (isEmpty (s .stack) && isEmpty (s .rest)) = subst T (sym q) tt in
@@ -108,7 +106,8 @@ module _ {G : Grammar} (D : Tests) (d : Decided G D) (L : Limits) (rec : State �
   by-end f false q e = by-sane f (sane D s) refl e
 
 -- What the model comes to is document 01's run.
-pub ran : {G : Grammar} (D : Tests) (d : Decided G D) (L : Limits) (n : ℕ) (s : State) (f : Done) → runs D L n s ≡ some f → Run G L s (f .moves) (f .end)
+pub ran : {G : Grammar} (D : Tests) (d : Decided G D) (L : Limits) (n : ℕ) (s : State) (f : Done) → runs D L n s ≡ some f
+    → Run G L s (f .moves) (f .end)
 unfolding runs
 ran D d L zero s f e = absurd (none-some e)
 ran D d L (suc n) s f e = by-end D d L (runs D L n) (ran D d L n) s f (isEmpty (s .stack) && isEmpty (s .rest)) refl e

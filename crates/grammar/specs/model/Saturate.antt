@@ -1,17 +1,17 @@
 -- A set of numbers of a finite range, grown one by one until nothing more fires: it is closed after as many rounds as the
 -- range has numbers, and it holds only what was justified.
-use Prim.Native.Nat.{ℕ, zero, suc, _+_, _≤_, _<_}
-use mathlib.Core.Path.{_≡_, refl, sym, ap, _∙_, subst}
+use Prim.Native.Nat.{ℕ, zero, suc, _+_, _≤_}
+use mathlib.Core.Path.{_≡_, refl, sym, subst}
 use mathlib.Core.Bool.{Bool, true, false, _&&_, not}
 use mathlib.Core.Option.{Option, none, some}
 use mathlib.Core.List.{List, [], _∷_, List·Memᴰ, List·Memᴰ·head, List·Memᴰ·tail, List·Memᴰ·cases-cons, List·Memᴰ·not-nil, Memᴰ·cast}
-use mathlib.Core.Logic.{_⊎_, inl, inr, ⊎-elim}
+use mathlib.Core.Logic.{⊎-elim}
 use native.Mathlib.Omega.{arith}
 use lib.ListN.{length}
 use lib.Dec.{T, T-not, not-T}
 use Rattle.grammar.specs.Derivation.{All}
 use Rattle.grammar.specs.theory.Pigeonhole.{Distinct, pigeonhole}
-use Rattle.grammar.specs.model.Tests.{holds, holds-member, member-holds, both, left-of, right-of, passes-or-not}
+use Rattle.grammar.specs.model.Tests.{holds, member-holds, both, left-of, right-of, passes-or-not}
 
 -- The first member of u that passes f.
 unfoldable orElse : Bool → ℕ → Option ℕ → Option ℕ

@@ -1,10 +1,9 @@
 -- The search of a correction: the least r, then the least i, by trying each in turn.
-use Prim.Native.Nat.{ℕ, zero, suc, _+_, _≤_, _<_}
-use mathlib.Core.Path.{_≡_, refl, sym, ap, _∙_, subst}
+use Prim.Native.Nat.{ℕ, zero, suc, _+_, _<_}
+use mathlib.Core.Path.{_≡_, refl, sym, subst}
 use mathlib.Core.Bool.{Bool, true, false, _&&_, cond}
 use mathlib.Core.Option.{Option, none, some}
 use mathlib.Core.List.{List, [], _∷_}
-use mathlib.Core.Logic.{_⊎_, inl, inr, ⊎-elim}
 use native.Mathlib.Omega.{arith}
 use lib.ListN.{length, getD, take}
 use lib.Dec.{T}
@@ -14,8 +13,7 @@ use Rattle.grammar.specs.Cost.{SymbolCost}
 use Rattle.grammar.specs.Grammar.{Grammar}
 use Rattle.grammar.specs.Run.{Plausible, Hit}
 use Rattle.grammar.specs.theory.Closed.{total}
-use Rattle.grammar.specs.model.Tests.{both, left-of, right-of, every, every-all}
-use Rattle.grammar.specs.model.Sets.{all-map}
+use Rattle.grammar.specs.model.Tests.{both, left-of, right-of}
 use Rattle.grammar.specs.model.Decided.{Tests, Decided, list-cost, list-cost-is}
 
 -- As `Plausible`, with the cost as a sum over the symbols above, and a cost `paid` before them.
@@ -105,7 +103,8 @@ unfolding sooner fit
 seek D σ [] = none
 seek D σ (t ∷ rest) = sooner (fit D t σ 0) (seek D σ rest)
 
-module _ {G : Grammar} (D : Tests) (d : Decided G D) (σ : List ℕ) (known : All (λ X. SymbolCost (G .rules) (G .price) X (D .cost X)) σ) where
+module _ {G : Grammar} (D : Tests) (d : Decided G D) (σ : List ℕ) (known : All (λ X. SymbolCost (G .rules) (G .price) X
+    (D .cost X)) σ) where
   all-take : {P : ℕ → Type 0} (i : ℕ) {α : List ℕ} → All P α → All P (take i α)
   all-take zero a = All.nothing
   all-take (suc i) All.nothing = All.nothing

@@ -1,21 +1,35 @@
 -- The sets of a list of rules, by rounds, each proved to be exactly the set by derivations: can be empty, derives a
 -- terminal string, reachable, FIRST.
-use Prim.Native.Nat.{ℕ, zero, suc, _+_, _≤_, _<_}
+use Prim.Native.Nat.{ℕ, _+_, _≤_, _<_}
 use mathlib.Core.Path.{_≡_, refl, sym, ap, _∙_, subst}
-use mathlib.Core.Bool.{Bool, true, false, _&&_, _||_}
+use mathlib.Core.Bool.{Bool, false, _&&_, _||_}
 use mathlib.Core.List.{List, [], _∷_, _++_, List·Memᴰ, List·Memᴰ·head, List·Memᴰ·tail, List·Memᴰ·not-nil, append-nil, append-assoc}
-use mathlib.Core.Logic.{_⊎_, inl, inr, ⊎-elim}
+use mathlib.Core.Logic.{⊎-elim}
 use native.Mathlib.Omega.{arith}
-use lib.ListN.{length}
 use lib.Dec.{T, eqb, eqb→eq, ltb, ltb→lt, lt→ltb}
-use Rattle.grammar.specs.Words.{Terminal, START, RuleSymbol}
-use Rattle.grammar.specs.Derivation.{Rules, All, Derives, CanBeEmpty, First, Reachable, Yields, Productive}
+use Rattle.grammar.specs.Words.{START, RuleSymbol}
+use Rattle.grammar.specs.Derivation.{Rules, All, Derives, Reachable, Yields, Productive}
 use Rattle.grammar.specs.theory.Leftmost.{Der, der-refl, der-append, der-trans, to-der, of-der}
-use Rattle.grammar.specs.theory.Closed.{ClosedUp, ClosedDown, ClosedFirst, closed-up, closed-down, closed-first, Begins, all-front, all-rest, all-append}
-use Rattle.grammar.specs.theory.Pigeonhole.{Distinct, range, range-length, range-member, range-within}
-use Rattle.grammar.specs.model.Tests.{holds, holds-member, member-holds, both, left-of, right-of, one-of, or-left, or-right, every, every-all, all-every, equal-passes, not-below}
+use Rattle.grammar.specs.theory.Closed.{ClosedUp, ClosedDown, closed-up, closed-down, all-rest, all-append}
+use Rattle.grammar.specs.theory.Pigeonhole.{Distinct, range, range-length, range-member}
+use Rattle.grammar.specs.model.Tests.{
+  holds,
+  holds-member,
+  member-holds,
+  both,
+  left-of,
+  right-of,
+  one-of,
+  or-left,
+  or-right,
+  every,
+  every-all,
+  all-every,
+  equal-passes,
+  not-below,
+}
 use Rattle.grammar.specs.model.Saturate.{saturate, saturate-sound, saturate-closed}
-use Rattle.grammar.specs.model.Ruled.{Rule, RuleAt, Ranged, someRule, Passing, passing, some-rule}
+use Rattle.grammar.specs.model.Ruled.{Rule, RuleAt, Ranged, someRule, passing, some-rule}
 
 -- A member of a list of which all have a property has it.
 pub all-at : {P : ℕ → Type 0} {l : List ℕ} {x : ℕ} → All P l → List·Memᴰ x l → P x
@@ -209,7 +223,12 @@ module _ (rs : List Rule) (N : ℕ) where
       j : (s : List ℕ) (x : ℕ) → All (Reachable (RuleAt rs) (START ∷ [])) s → T (reachFires rs s x) → Reachable (RuleAt rs) (START ∷ []) x
       j s x a h =
           ⊎-elim
-          (λ e. record { front = []; rest = []; stands = subst (λ Y. Derives (RuleAt rs) (START ∷ []) (Y ∷ [])) (sym (eqb→eq x START e)) Derives.done })
+          (λ e. record {
+            front = [];
+            rest = [];
+            stands = subst (λ Y. Derives (RuleAt rs) (START ∷ []) (Y ∷ [])) (sym
+                (eqb→eq x START e)) Derives.done;
+          })
           (λ k.
           let i = passing (λ A β. holds s A && holds β x) rs k in
           let m = all-at a (holds-member s (i .left) (left-of (holds s (i .left)) (holds (i .right) x) (i .passes))) in
@@ -217,7 +236,8 @@ module _ (rs : List Rule) (N : ℕ) where
           record {
             front = m .front ++ b .front;
             rest = b .rest ++ m .rest;
-            stands = of-der _ (opened (RuleAt rs) (START ∷ []) (m .front) (m .rest) (b .front) (b .rest) x (to-der _ (m .stands)) (i .rule) (b .joined));
+            stands = of-der _ (opened (RuleAt rs) (START ∷ []) (m .front) (m .rest) (b .front) (b .rest) x (to-der _ (m .stands))
+                (i .rule) (b .joined));
           })
           (one-of (eqb x START) (someRule (λ A β. holds s A && holds β x) rs) h)
 
@@ -226,7 +246,8 @@ module _ (rs : List Rule) (N : ℕ) where
   unfolding isReachable
   known X = ltb X 64 || isReachable rs N X
 
-  pub reachable-complete : (t : ℕ) → Ranged rs t N → 1 ≤ N → (B : ℕ) → 64 ≤ B → Reachable (RuleAt rs) (START ∷ []) B → T (isReachable rs N B)
+  pub reachable-complete : (t : ℕ) → Ranged rs t N → 1 ≤ N → (B : ℕ) → 64 ≤ B → Reachable (RuleAt rs) (START ∷ []) B
+      → T (isReachable rs N B)
   unfolding known isReachable reachFires
   reachable-complete t r n B l h =
       let a = closed-down (RuleAt rs) (λ X. T (known X)) down (to-der _ (h .stands)) (All.also start All.nothing) in
@@ -236,7 +257,8 @@ module _ (rs : List Rule) (N : ℕ) where
       start : T (known START)
       start = grown-closed (reachFires rs) N 64 (omega arith) (omega arith) tt
 
-      held : (p A X : ℕ) (β : List ℕ) → RuleAt rs p A β → T (isReachable rs N A) → List·Memᴰ X β → 64 ≤ X → X < 64 + N → T (isReachable rs N X)
+      held : (p A X : ℕ) (β : List ℕ) → RuleAt rs p A β → T (isReachable rs N A) → List·Memᴰ X β → 64 ≤ X → X < 64 + N
+          → T (isReachable rs N X)
       held p A X β i k m l h =
           grown-closed (reachFires rs) N X l h
           (or-right (eqb X START) (someRule (λ C γ. holds (grown (reachFires rs) N) C && holds γ X) rs)

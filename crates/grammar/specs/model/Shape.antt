@@ -1,9 +1,9 @@
 -- The shape of the words, by a test.
-use Prim.Native.Nat.{ℕ, zero, suc, _+_, _-_, _*_, _≤_, _<_}
+use Prim.Native.Nat.{ℕ, _+_, _-_, _≤_, _<_}
 use mathlib.Core.Path.{_≡_}
 use mathlib.Core.Bool.{Bool, _&&_, _||_}
 use mathlib.Core.List.{List}
-use mathlib.Core.Logic.{_⊎_, inl, inr, ⊎-elim}
+use mathlib.Core.Logic.{_⊎_, inl, inr}
 use native.Mathlib.Omega.{arith}
 use lib.ListN.{length}
 use lib.Dec.{T, leb, ltb, eqb}
@@ -51,7 +51,8 @@ marks-test : (T o c : ℕ) → Reflects (areMarks T o c) (Marks T o c)
 unfolding areMarks
 marks-test T o c =
     iff-test
-    (or-test (and-test (and-test (le-test 1 o) (lt-test o T)) (and-test (le-test 1 c) (lt-test c T))) (and-test (eq-test o 0) (eq-test c 0)))
+    (or-test (and-test (and-test (le-test 1 o) (lt-test o T)) (and-test (le-test 1 c) (lt-test c T))) (and-test (eq-test o 0)
+    (eq-test c 0)))
     to from
   where
     to : (((1 ≤ o) × (o < T)) × ((1 ≤ c) × (c < T))) ⊎ ((o ≡ 0) × (c ≡ 0)) → Marks T o c

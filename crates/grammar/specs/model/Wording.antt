@@ -1,11 +1,11 @@
 -- The rules of the words as a list, and that the list says what the words say.
-use Prim.Native.Nat.{ℕ, zero, suc, _+_, _≤_, _<_}
-use mathlib.Core.Path.{_≡_, refl, sym, ap, _∙_, subst}
-use mathlib.Core.List.{List, [], _∷_, _++_, map}
+use Prim.Native.Nat.{ℕ, zero, suc, _+_, _<_}
+use mathlib.Core.Path.{_≡_, sym, ap, _∙_, subst}
+use mathlib.Core.List.{List, [], _∷_, map}
 use native.Mathlib.Omega.{arith}
-use lib.ListN.{length, getD, take, drop, length-take, length-drop}
+use lib.ListN.{length, getD, drop, length-take}
 use lib.Seq.{getD-take, getD-drop}
-use Rattle.grammar.specs.Words.{word, terminalCount, nonterminalCount, ruleCount, leftSide, rightSide, rightSize, rulePlace, RuleSymbol, Shaped}
+use Rattle.grammar.specs.Words.{terminalCount, nonterminalCount, ruleCount, leftSide, rightSide, rightSize, rulePlace, RuleSymbol, Shaped}
 use Rattle.grammar.specs.Derivation.{Rules, All, Step, Derives, First, Follow, Reachable, Yields, Productive, Predict}
 use Rattle.grammar.specs.Cost.{Cheapest}
 use Rattle.grammar.specs.Grammar.{RuleOf}
@@ -73,7 +73,8 @@ pub all-index : {P : ℕ → Type 0} (l : List ℕ) → ((i : ℕ) → i < lengt
 all-index [] f = All.nothing
 all-index (x ∷ l) f = All.also (f 0 (omega arith)) (all-index l (λ i h. f (suc i) (omega arith)))
 
-pub right-symbols : (ws : List ℕ) → Shaped ws → (p : ℕ) → p < ruleCount ws → All (RuleSymbol (terminalCount ws) (nonterminalCount ws)) (rightSide ws p)
+pub right-symbols : (ws : List ℕ) → Shaped ws → (p : ℕ) → p < ruleCount ws
+    → All (RuleSymbol (terminalCount ws) (nonterminalCount ws)) (rightSide ws p)
 unfolding rightSide
 right-symbols ws s p h =
     all-index (rightSide ws p)

@@ -1,16 +1,15 @@
 -- The words' grammar with its tests: what the run's model needs.
-use Prim.Native.Nat.{ℕ, zero, suc, _+_, _≤_, _<_}
-use mathlib.Core.Path.{_≡_, refl, sym, ap, _∙_, subst}
-use mathlib.Core.Bool.{Bool, true, false, _&&_, _||_}
-use mathlib.Core.Option.{Option, none, some}
-use mathlib.Core.List.{List, [], _∷_}
-use mathlib.Core.Logic.{_⊎_, inl, inr, ⊎-elim}
+use Prim.Native.Nat.{ℕ, _+_}
+use mathlib.Core.Path.{sym}
+use mathlib.Core.Bool.{Bool, _&&_, _||_}
+use mathlib.Core.List.{List}
+use mathlib.Core.Logic.{⊎-elim}
 use lib.Dec.{T, leb, leb→le, ltb, ltb→lt, eqb, eqb→eq, lt→ltb}
 use Rattle.grammar.specs.Words.{END, Shaped, terminalCount, nonterminalCount, insertCost, reliability}
 use Rattle.grammar.specs.Cost.{SymbolCost}
 use Rattle.grammar.specs.Grammar.{grammarOf, RuleOf, Reliable}
 use Rattle.grammar.specs.model.Tests.{holds, left-of, right-of, one-of, or-left, or-right, equal-passes}
-use Rattle.grammar.specs.model.Ruled.{Rule, RuleAt}
+use Rattle.grammar.specs.model.Ruled.{RuleAt}
 use Rattle.grammar.specs.model.Sets.{nulls}
 use Rattle.grammar.specs.model.Firsts.{begins, starts, firsts, isFirst, first-sound, first-complete}
 use Rattle.grammar.specs.model.Prices.{costOf, terminal-cost}

@@ -1,8 +1,8 @@
 -- Closed sets are complete: a set that is closed under the rules holds every symbol that has the property by a
 -- derivation. One law each for what is inherited upwards (can be empty, derives a terminal string), downwards
 -- (reachable), FIRST, FOLLOW and cost. A grammar check whose sets are closed misses nothing.
-use Prim.Native.Nat.{ℕ, zero, suc, _+_, _≤_}
-use mathlib.Core.Path.{_≡_, refl, sym, ap, _∙_, subst}
+use Prim.Native.Nat.{ℕ, _+_, _≤_}
+use mathlib.Core.Path.{_≡_}
 use mathlib.Core.List.{List, [], _∷_, _++_}
 use mathlib.Core.Logic.{_⊎_, inl, inr, ⊎-elim}
 use native.Mathlib.Omega.{arith}

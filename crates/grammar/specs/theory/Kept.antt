@@ -1,19 +1,27 @@
 -- What the parser's own answer keeps of the demands: where it answers with counts, the records in the edit buffer give a
 -- repaired log that is derivable, and so on. `Demands` states it first.
-use Prim.Native.Nat.{ℕ, _+_, _*_, _≤_, _<_}
-use mathlib.Core.Path.{_≡_, refl, sym, ap, subst}
-use mathlib.Core.Logic.{_↔_}
-use mathlib.Core.List.{List, [], _∷_}
+use Prim.Native.Nat.{ℕ}
+use mathlib.Core.Path.{_≡_}
+use mathlib.Core.List.{List}
 use mathlib.Core.Option.{none}
 use native.Mathlib.Omega.{arith}
-use lib.ListN.{length}
-use Rattle.grammar.specs.Words.{START, nonterminalCount, ruleCount, rightSize}
-use Rattle.grammar.specs.Derivation.{Derives}
-use Rattle.grammar.specs.Grammar.{RuleOf, Meets, Verdict}
+use Rattle.grammar.specs.Grammar.{Meets, Verdict}
 use Rattle.grammar.specs.Buffers.{filled}
 use Rattle.grammar.specs.Moves.{Move, edits, editWords, ruleNumbers}
 use Rattle.grammar.specs.Refusals.{Outcome, given, refused, Lowest}
-use Rattle.grammar.specs.Run.{LogFits, ParseMeets, parseRefusals, RunOf, Settled, Counts, countsOf, answered, editsLeft, rulesLeft, Parsed}
+use Rattle.grammar.specs.Run.{
+  LogFits,
+  ParseMeets,
+  parseRefusals,
+  RunOf,
+  Settled,
+  Counts,
+  countsOf,
+  answered,
+  editsLeft,
+  rulesLeft,
+  Parsed,
+}
 use Rattle.grammar.specs.theory.Good.{Accepted}
 use Rattle.grammar.specs.theory.Answers.{admitted}
 
@@ -44,9 +52,11 @@ given-refused e = let z : _≡_ {A = ℕ} 0 1 = cc in omega arith
 pub parsed-made : {ws log : List ℕ} {editRoom ruleRoom : ℕ} {counts : Counts} {x y : List ℕ}
     → Parsed ws log editRoom ruleRoom (given counts) x y → Made ws log editRoom ruleRoom counts x y
 unfolding answered editsLeft rulesLeft
-parsed-made {ws} {log} {editRoom} {ruleRoom} {counts} {x} {y} p = go (p .outcome) (p .settled) (p .answers) (p .leaves-edits) (p .leaves-rules)
+parsed-made {ws} {log} {editRoom} {ruleRoom} {counts} {x} {y} p = go (p .outcome) (p .settled) (p .answers) (p .leaves-edits)
+    (p .leaves-rules)
   where
-    go : (o : Outcome (List Move)) → Settled (ParseMeets ws log) parseRefusals (RunOf ws log editRoom ruleRoom) o → given counts ≡ answered o
+    go : (o : Outcome (List Move)) → Settled (ParseMeets ws log) parseRefusals (RunOf ws log editRoom ruleRoom) o
+        → given counts ≡ answered o
         → x ≡ editsLeft editRoom o → y ≡ rulesLeft ruleRoom o → Made ws log editRoom ruleRoom counts x y
     go (given ms) (Settled.whole l r) a e f =
         let w = admitted l in

@@ -3,7 +3,7 @@
 -- proof matches on.
 use Prim.Native.Nat.{ℕ}
 use mathlib.Core.Path.{_≡_, refl, sym, ap, _∙_, subst}
-use mathlib.Core.List.{List, [], _∷_, _++_, append-assoc, append-nil, head-eq-of-cons-eq, tail-eq-of-cons-eq, cons≢nil}
+use mathlib.Core.List.{List, [], _∷_, _++_, append-assoc, head-eq-of-cons-eq, tail-eq-of-cons-eq, cons≢nil}
 use Rattle.grammar.specs.Derivation.{Rules, Step, Derives}
 
 pub data Der (R : Rules) : List ℕ → List ℕ → Type 0 where

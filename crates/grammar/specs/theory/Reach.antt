@@ -1,8 +1,7 @@
 -- How a token comes to the head of a list by leftmost steps: FIRST, taken apart. All LL(1) facts are inductions on it.
-use Prim.Native.Nat.{ℕ, zero, suc, _+_}
+use Prim.Native.Nat.{ℕ, suc, _+_}
 use mathlib.Core.Path.{_≡_, refl, sym, ap, _∙_, subst}
 use mathlib.Core.List.{List, [], _∷_, _++_, append-assoc, append-nil, nil≢cons, head-eq-of-cons-eq, tail-eq-of-cons-eq}
-use mathlib.Core.Logic.{_⊎_, inl, inr, ⊎-elim}
 use native.Mathlib.Omega.{arith}
 use Rattle.grammar.specs.Derivation.{Rules, Step, Derives, First, CanBeEmpty}
 use Rattle.grammar.specs.Words.{Terminal}

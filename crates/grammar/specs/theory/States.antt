@@ -11,7 +11,18 @@ use Rattle.grammar.specs.Grammar.{Grammar}
 use Rattle.grammar.specs.Run.{Hit, Pick, Choice, State, next}
 use Rattle.grammar.specs.theory.Leftmost.{to-der}
 use Rattle.grammar.specs.theory.Good.{Inner, Good}
-use Rattle.grammar.specs.theory.Forms.{Ended, At, ended-append, ended-of, not-terminal, end-stays, ended-begin, at-begin, at-rest, at-down}
+use Rattle.grammar.specs.theory.Forms.{
+  Ended,
+  At,
+  ended-append,
+  ended-of,
+  not-terminal,
+  end-stays,
+  ended-begin,
+  at-begin,
+  at-rest,
+  at-down,
+}
 use Rattle.grammar.specs.theory.Chosen.{choice-determined, dropped-empty}
 
 -- "Each 1..T-1": a terminal other than END.

@@ -1,0 +1,116 @@
+-- What the model answers is compared with what the table says: edits, rules, pace, refusals.
+use Prim.Native.Nat.{ℕ}
+use mathlib.Core.Path.{_≡_, refl, ap, _∙_}
+use mathlib.Core.Bool.{Bool, true, false, _&&_, cond}
+use mathlib.Core.List.{List, [], _∷_}
+use mathlib.Core.Option.{Option, none, some}
+use lib.ListN.{length}
+use lib.Dec.{T, eqb, eqb→eq}
+use Rattle.grammar.specs.Buffers.{filled}
+use Rattle.grammar.specs.Moves.{Move, Edit, edits, editWords, ruleNumbers}
+use Rattle.grammar.specs.Refusals.{numberOf}
+use Rattle.grammar.specs.Pace.{Span, reportOf, totalMs, paceOf}
+use Rattle.grammar.specs.declared.Refusal.{Refusal}
+use Rattle.grammar.specs.declared.Refusal.the-variants.{
+  BadSize,
+  BadCheck,
+  BadBlock,
+  ShortWords,
+  BadShape,
+  Unreachable,
+  NoString,
+  TooCostly,
+  SharedPredict,
+  BadLog,
+  StackFull,
+  NoRoom,
+}
+use Rattle.grammar.specs.model.Tests.{left-of, right-of}
+use Rattle.grammar.specs.cases.Cases.{ToldPace, idle, cycles, EditsTold, RulesTold, PaceTold, editRoom, ruleRoom}
+
+unfoldable pub sameList : List ℕ → List ℕ → Bool
+sameList [] [] = true
+sameList [] (y ∷ ys) = false
+sameList (x ∷ xs) [] = false
+sameList (x ∷ xs) (y ∷ ys) = eqb x y && sameList xs ys
+
+same-list : (xs ys : List ℕ) → T (sameList xs ys) → xs ≡ ys
+unfolding sameList
+same-list [] [] h = refl
+same-list (x ∷ xs) (y ∷ ys) h =
+    ap (λ z. z ∷ xs) (eqb→eq x y (left-of (eqb x y) (sameList xs ys) h))
+    ∙ ap (λ l. y ∷ l) (same-list xs ys (right-of (eqb x y) (sameList xs ys) h))
+
+unfoldable pub editsAgree : Option (List Edit) → List Move → Bool
+unfolding sameList edits editWords
+editsAgree none ms = true
+editsAgree (some es) ms = eqb (length (edits ms)) (length es) && sameList (editWords (edits ms)) (editWords es)
+
+unfoldable pub rulesAgree : Option (List ℕ) → List Move → Bool
+unfolding sameList ruleNumbers
+rulesAgree none ms = true
+rulesAgree (some ps) ms = sameList (ruleNumbers ms) ps
+
+unfoldable pub paceAgrees : Option ToldPace → ℕ → ℕ → Bool
+paceAgrees none n s = true
+paceAgrees (some idle) n s = eqb n 0
+paceAgrees (some (cycles m u)) n s = eqb n m && eqb s u
+
+pub edits-agree : (o : Option (List Edit)) (ms : List Move) → T (editsAgree o ms)
+    → EditsTold o (length (edits ms)) (filled editRoom (editWords (edits ms)))
+unfolding editsAgree
+edits-agree none ms h = tt
+edits-agree (some es) ms h = (
+  eqb→eq (length (edits ms)) (length es) (left-of (eqb (length (edits ms)) (length es)) (sameList (editWords (edits ms)) (editWords es)) h),
+  ap (filled editRoom)
+      (same-list (editWords (edits ms)) (editWords es)
+      (right-of (eqb (length (edits ms)) (length es)) (sameList (editWords (edits ms)) (editWords es)) h)),
+)
+
+pub rules-agree : (o : Option (List ℕ)) (ms : List Move) → T (rulesAgree o ms)
+    → RulesTold o (length (ruleNumbers ms)) (filled ruleRoom (ruleNumbers ms))
+unfolding rulesAgree
+rules-agree none ms h = tt
+rules-agree (some ps) ms h =
+    let e = same-list (ruleNumbers ms) ps h in (ap length e, ap (filled ruleRoom) e)
+
+pub pace-agrees : (o : Option ToldPace) (unit : ℕ) (ticks : List ℕ) (cs : List Span) → T (paceAgrees o (length cs) (totalMs unit ticks cs))
+    → PaceTold o (reportOf unit ticks cs)
+unfolding paceAgrees reportOf paceOf
+pace-agrees none unit ticks cs h = tt
+pace-agrees (some idle) unit ticks cs h =
+    let e = eqb→eq (length cs) 0 h in (e, ap (λ n. paceOf n (totalMs unit ticks cs)) e)
+pace-agrees (some (cycles m u)) unit ticks cs h =
+    let e = eqb→eq (length cs) m (left-of (eqb (length cs) m) (eqb (totalMs unit ticks cs) u) h) in
+    let d = eqb→eq (totalMs unit ticks cs) u (right-of (eqb (length cs) m) (eqb (totalMs unit ticks cs) u) h) in
+    (e, d, ap (λ n. paceOf n (totalMs unit ticks cs)) e ∙ ap (paceOf m) d)
+
+-- A refusal is known by its number.
+unfoldable pub numbered : ℕ → Refusal
+numbered n =
+    cond (eqb n 1) BadSize
+    (cond (eqb n 2) BadCheck
+    (cond (eqb n 3) BadBlock
+    (cond (eqb n 4) ShortWords
+    (cond (eqb n 5) BadShape
+    (cond (eqb n 6) Unreachable
+    (cond (eqb n 7) NoString
+    (cond (eqb n 8) TooCostly
+    (cond (eqb n 9) SharedPredict
+    (cond (eqb n 10) BadLog
+    (cond (eqb n 11) StackFull NoRoom))))))))))
+
+pub is-numbered : (r : Refusal) → numbered (numberOf r) ≡ r
+unfolding numbered numberOf
+is-numbered BadSize = refl
+is-numbered BadCheck = refl
+is-numbered BadBlock = refl
+is-numbered ShortWords = refl
+is-numbered BadShape = refl
+is-numbered Unreachable = refl
+is-numbered NoString = refl
+is-numbered TooCostly = refl
+is-numbered SharedPredict = refl
+is-numbered BadLog = refl
+is-numbered StackFull = refl
+is-numbered NoRoom = refl
