@@ -1,0 +1,83 @@
+//! What an implementation of document 01 answers, besides the buffers it was lent.
+
+/// A refusal number, 1 to 12 of the table.
+pub type Refusal = u16;
+
+/// Longest log: "over 4,096 tokens" is refusal 10.
+pub const MOST_TOKENS: usize = 4_096;
+/// "The program lends 2,783 words for the grammar, 24,576 for edits and 16,384 for rules."
+pub const LISTING_WORDS: usize = 2_783;
+pub const LISTING_EDITS: usize = 24_576;
+pub const LISTING_RULES: usize = 16_384;
+
+/// The counts of a parse that was not refused.
+#[derive(Clone, Copy, Debug, PartialEq, Eq)]
+pub struct Parsed {
+    /// "Every match, expand, drop, delete and insert counts one move."
+    pub moves: u64,
+    /// Edit records written, three words each.
+    pub edits: u64,
+    /// Rule numbers written.
+    pub rules: u64,
+}
+
+/// "idle when the count is 0, else the mean in ms as an f64"
+#[derive(Clone, Copy, Debug)]
+pub enum Pace {
+    Idle,
+    Mean(f64),
+}
+
+/// Means are the same when they are the same 64 bits.
+impl PartialEq for Pace {
+    fn eq(&self, other: &Pace) -> bool {
+        match (self, other) {
+            (Pace::Idle, Pace::Idle) => true,
+            (Pace::Mean(a), Pace::Mean(b)) => a.to_bits() == b.to_bits(),
+            _ => false,
+        }
+    }
+}
+
+/// "The report holds the count of clean cycles, the sum of their times in ms, and a pace."
+#[derive(Clone, Copy, Debug, PartialEq)]
+pub struct Report {
+    pub cycles: u64,
+    pub ms: u64,
+    pub pace: Pace,
+}
+
+/// One implementation of document 01. Another one, behind a C interface say, joins the
+/// comparison and the benchmark by implementing this trait.
+pub trait Implementation {
+    /// The name that heads its column.
+    fn name(&self) -> &'static str;
+
+    /// Reads a grammar file: its words into `words`, their number as the answer.
+    fn read(&self, file: &[u8], words: &mut [u16]) -> Result<usize, Refusal>;
+
+    /// Checks grammar words, refusals 5 to 9.
+    fn check(&self, words: &[u16]) -> Result<(), Refusal>;
+
+    /// Parses a log, refusals 5 to 12.
+    fn parse(
+        &self,
+        words: &[u16],
+        tokens: &[u16],
+        edits: &mut [u16],
+        rules: &mut [u16],
+    ) -> Result<Parsed, Refusal>;
+
+    /// Runs the parse and reports the pace, refusals 5 to 12.
+    fn report(
+        &self,
+        words: &[u16],
+        tokens: &[u16],
+        ticks: &[u32],
+        edits: &mut [u16],
+        rules: &mut [u16],
+    ) -> Result<Report, Refusal>;
+
+    /// The printing program: standard input to the text it prints.
+    fn listing(&self, input: &[u8]) -> String;
+}

@@ -1,0 +1,238 @@
+//! Measures the implementations beside each other: `bench [SEED]`.
+//!
+//! Every figure is a median over repeated runs; where a row covers several logs, it shows the
+//! median over the logs and in brackets the least and the largest. Ratios are taken log by
+//! log against the tuned implementation.
+
+use compare::answer::{Implementation, LISTING_EDITS, LISTING_RULES, LISTING_WORDS};
+use compare::generate::log::{self, Sampler};
+use compare::generate::{families, file, grammar, Draft, Random};
+use compare::implementations::{self, TUNED};
+use std::hint::black_box;
+use std::time::Instant;
+
+/// How many logs of each kind.
+const LOGS: usize = 16;
+/// How many samples of each figure.
+const SAMPLES: usize = 31;
+/// How many calls make one sample: a read or check is repeated, a log is run once, so that
+/// the processor's branch prediction does not learn it by heart.
+const CALLS: u32 = 50;
+const ONCE: u32 = 1;
+
+fn main() {
+    let seed = std::env::args().nth(1).and_then(|s| s.parse().ok());
+    let seed = seed.unwrap_or(1);
+    let bench = Bench {
+        columns: implementations::all(),
+    };
+    let mut random = Random::new(seed);
+    let g = families::bench_g();
+    let large = grammar::large(&mut random, 200);
+    println!(
+        "seed {seed}; large grammar: 64 nonterminals, {} rules",
+        large.rules.len()
+    );
+    println!(
+        "lent: {LISTING_WORDS} words, {LISTING_EDITS} edit words, {LISTING_RULES} rule words, \
+         with the content of the run before; clearing behind the last word written is part of \
+         every figure"
+    );
+    bench.read_and_check("G", &g);
+    bench.read_and_check("large", &large);
+    bench.logs(&mut random, "G", &g);
+    bench.logs(&mut random, "large", &large);
+    bench.growth(&mut random, "G", &g);
+    bench.depth();
+}
+
+/// A log with its ticks.
+type Log = (Vec<u16>, Vec<u32>);
+
+/// The columns of the table.
+struct Bench {
+    columns: Vec<Box<dyn Implementation>>,
+}
+
+impl Bench {
+    fn read_and_check(&self, name: &str, draft: &Draft) {
+        let words = draft.words();
+        let file = file::file_of(&words);
+        let mut lent = vec![0; LISTING_WORDS];
+        self.head(&format!("grammar {name}: {} words, ns a call", words.len()));
+        self.row("read", &[file], (CALLS, 1.0), |column, file| {
+            let _ = black_box(column.read(black_box(file), &mut lent));
+        });
+        self.row("check", &[words], (CALLS, 1.0), |column, words| {
+            let _ = black_box(column.check(black_box(words)));
+        });
+    }
+
+    /// Parse and pace on correct, damaged and noise logs of 4,096 tokens.
+    fn logs(&self, random: &mut Random, name: &str, draft: &Draft) {
+        self.head(&format!(
+            "grammar {name}: {LOGS} logs of 4,096 tokens, ns a token"
+        ));
+        for (kind, logs) in kinds_of_logs(random, draft, 4_096) {
+            self.parse_row(&format!("parse {kind}"), draft, &logs);
+            self.report_row(&format!("pace {kind}"), draft, &logs);
+        }
+    }
+
+    /// How the cost grows with the number of tokens.
+    fn growth(&self, random: &mut Random, name: &str, draft: &Draft) {
+        self.head(&format!(
+            "grammar {name}: {LOGS} logs of n tokens, ns a token"
+        ));
+        for n in [512, 1_024, 2_048, 4_096] {
+            for (kind, logs) in kinds_of_logs(random, draft, n) {
+                self.parse_row(&format!("parse {kind} n {n}"), draft, &logs);
+            }
+        }
+    }
+
+    /// How the cost grows with the depth of the stack: brackets 1 and 2 nested d deep, and
+    /// between them d times 3, which is of use nowhere, so that every search looks through
+    /// the whole stack.
+    fn depth(&self) {
+        let rules: [(u16, &[u16]); 4] = [(0, &[65, 64]), (0, &[]), (1, &[1, 66, 2]), (2, &[65])];
+        let mut draft = Draft::new(4, 3, &rules);
+        draft.rules.push((2, Vec::new()));
+        draft.terminals = vec![(0, 0), (20, 60), (3, 9), (1, 60_000)];
+        self.head("nested brackets: logs of 4,096 tokens, ns a token");
+        for depth in [1, 4, 16, 64, 120] {
+            let nested: Vec<u16> = [vec![1; depth], vec![2; depth]].concat();
+            let foreign: Vec<u16> = [vec![1; depth], vec![3; depth], vec![2; depth]].concat();
+            for (kind, unit) in [("correct", nested), ("foreign", foreign)] {
+                let tokens: Vec<u16> = unit.iter().copied().cycle().take(4_096).collect();
+                let logs = [(tokens, vec![0; 4_096])];
+                self.parse_row(&format!("parse {kind} depth {depth}"), &draft, &logs);
+            }
+        }
+    }
+
+    fn parse_row(&self, name: &str, draft: &Draft, logs: &[Log]) {
+        let words = draft.words();
+        let (mut edits, mut rules) = (vec![0; LISTING_EDITS], vec![0; LISTING_RULES]);
+        self.row(
+            name,
+            logs,
+            (ONCE, logs[0].0.len() as f64),
+            |column, (tokens, _)| {
+                let answer = column.parse(black_box(&words), tokens, &mut edits, &mut rules);
+                black_box(answer).expect("a log that is not refused");
+            },
+        );
+    }
+
+    fn report_row(&self, name: &str, draft: &Draft, logs: &[Log]) {
+        let words = draft.words();
+        let (mut edits, mut rules) = (vec![0; LISTING_EDITS], vec![0; LISTING_RULES]);
+        self.row(
+            name,
+            logs,
+            (ONCE, logs[0].0.len() as f64),
+            |column, (tokens, ticks)| {
+                let answer =
+                    column.report(black_box(&words), tokens, ticks, &mut edits, &mut rules);
+                black_box(answer).expect("a log that is not refused");
+            },
+        );
+    }
+
+    fn head(&self, title: &str) {
+        println!("\n{title}");
+        print!("{:<28}", "");
+        for column in &self.columns {
+            print!("{:>28}", column.name());
+        }
+        let tuned = self.columns[TUNED].name();
+        for column in self.columns.iter().filter(|column| column.name() != tuned) {
+            print!("{:>28}", format!("{}/{tuned}", column.name()));
+        }
+        println!();
+    }
+
+    /// Measures every column on every input and prints one row. A sample goes through all
+    /// inputs before it comes to the first again.
+    fn row<I>(
+        &self,
+        name: &str,
+        inputs: &[I],
+        (calls, parts): (u32, f64),
+        mut call: impl FnMut(&dyn Implementation, &I),
+    ) {
+        let mut samples = vec![vec![Vec::new(); inputs.len()]; self.columns.len()];
+        for _ in 0..SAMPLES {
+            for (column, samples) in self.columns.iter().zip(&mut samples) {
+                for (input, samples) in inputs.iter().zip(samples) {
+                    samples.push(time_of(calls, || call(column.as_ref(), input)) / parts);
+                }
+            }
+        }
+        let figures: Vec<Vec<f64>> = samples
+            .iter_mut()
+            .map(|samples| samples.iter_mut().map(|s| median(s)).collect())
+            .collect();
+        print!("{name:<28}");
+        for figures in &figures {
+            print!("{:>28}", spread(figures));
+        }
+        let (mut others, tuned) = (figures.clone(), &figures[TUNED]);
+        others.remove(TUNED);
+        for figures in others {
+            let ratios: Vec<f64> = figures.iter().zip(tuned).map(|(a, b)| a / b).collect();
+            print!("{:>28}", spread(&ratios));
+        }
+        println!();
+    }
+}
+
+/// Correct logs, logs with 5 % of the places damaged, and noise.
+fn kinds_of_logs(random: &mut Random, draft: &Draft, n: usize) -> [(&'static str, Vec<Log>); 3] {
+    let sampler = Sampler::new(draft);
+    let t = draft.t();
+    let mut correct = Vec::new();
+    let mut damaged = Vec::new();
+    let mut noise = Vec::new();
+    for _ in 0..LOGS {
+        let log = sampler.exact(random, n);
+        // Some places are lost by damage: draw more, then cut.
+        let more = sampler.string(random, 64, n + n / 4, 200);
+        let mut worse = log::damaged(random, &more, t, 50);
+        worse.truncate(n);
+        assert_eq!(worse.len(), n, "a damaged log of full length");
+        let any = log::noise(random, t, n);
+        for (logs, tokens) in [
+            (&mut correct, log),
+            (&mut damaged, worse),
+            (&mut noise, any),
+        ] {
+            logs.push((tokens, log::ticks(random, n)));
+        }
+    }
+    [("correct", correct), ("damaged", damaged), ("noise", noise)]
+}
+
+/// The mean time in ns of so many calls.
+fn time_of(calls: u32, mut call: impl FnMut()) -> f64 {
+    let start = Instant::now();
+    (0..calls).for_each(|_| call());
+    start.elapsed().as_nanos() as f64 / f64::from(calls)
+}
+
+fn median(figures: &mut [f64]) -> f64 {
+    figures.sort_by(f64::total_cmp);
+    figures[figures.len() / 2]
+}
+
+/// The median with the least and the largest.
+fn spread(figures: &[f64]) -> String {
+    let mut sorted = figures.to_vec();
+    let middle = median(&mut sorted);
+    if sorted.len() == 1 {
+        return format!("{middle:.2}");
+    }
+    let (least, most) = (sorted[0], sorted[sorted.len() - 1]);
+    format!("{middle:.2} [{least:.2}, {most:.2}]")
+}

@@ -1,0 +1,69 @@
+//! Writes many inputs of the printing program and what the plain implementation prints for
+//! them: `make_stored SEED COUNT FOLDER`.
+//!
+//! `inputs.bin` holds for each input its length as a u32, little endian, and its bytes;
+//! `expected.txt` holds the listings one behind the other. Long inputs are few, so that the
+//! files stay small. Exits with 1 when some refusal is missing. Refusal 4 always is: the
+//! program lends as many words as eleven blocks hold.
+
+use compare::generate::Source;
+use compare::plain;
+use std::path::PathBuf;
+use std::{env, fs, io, process};
+
+/// An input of more bytes is long, and so many long ones are taken of each refusal.
+const LONG: usize = 2_000;
+const LONG_ONES: usize = 4;
+/// How often a refusal may be given by the inputs taken: at most one in so many.
+const SHARE: usize = 8;
+
+fn main() -> io::Result<()> {
+    let arguments: Vec<String> = env::args().skip(1).collect();
+    let numbers = |at: usize| arguments.get(at).and_then(|text| text.parse::<u64>().ok());
+    let (Some(seed), Some(count), Some(folder)) = (numbers(0), numbers(1), arguments.get(2)) else {
+        eprintln!("usage: make_stored SEED COUNT FOLDER");
+        process::exit(2);
+    };
+    let count = count as usize;
+    let source = Source::new(seed);
+    let (mut inputs, mut expected) = (Vec::new(), String::new());
+    let mut taken = 0;
+    // How many gave each refusal, and how many of these are long; place 0 counts those not
+    // refused.
+    let (mut given, mut long) = ([0; 13], [0; 13]);
+    for index in 0.. {
+        if taken == count {
+            break;
+        }
+        let input = source.standard_input(index);
+        let listing = plain::listing(&input);
+        let refusal = listing.strip_prefix("refused ").map_or(0, |number| {
+            number.trim_end().parse().expect("a refusal number")
+        });
+        let is_long = input.len() > LONG;
+        if is_long && long[refusal] == LONG_ONES || refusal > 0 && given[refusal] > count / SHARE {
+            continue;
+        }
+        inputs.extend((input.len() as u32).to_le_bytes());
+        inputs.extend(input);
+        expected.push_str(&listing);
+        taken += 1;
+        long[refusal] += usize::from(is_long);
+        given[refusal] += 1;
+    }
+    let folder = PathBuf::from(folder);
+    fs::create_dir_all(&folder)?;
+    fs::write(folder.join("inputs.bin"), &inputs)?;
+    fs::write(folder.join("expected.txt"), &expected)?;
+    println!(
+        "{taken} inputs, {} and {} bytes",
+        inputs.len(),
+        expected.len()
+    );
+    println!("{:>12} {}", "not refused", given[0]);
+    for (number, count) in given.iter().enumerate().skip(1) {
+        println!("{:>12} {count}", format!("refused {number}"));
+    }
+    let missing = (1..13).any(|number| number != 4 && given[number] == 0);
+    process::exit(i32::from(missing));
+}

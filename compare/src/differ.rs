@@ -1,0 +1,109 @@
+//! Runs one input on implementations and tells where they differ.
+
+use crate::answer::{Implementation, Pace, Refusal};
+use crate::generate::Input;
+
+/// Everything an implementation gives back for one input: the refusal or the numbers it
+/// answers, and every word of every buffer it was lent.
+#[derive(Clone, Debug, PartialEq, Eq)]
+pub struct Outcome {
+    /// Numbers in the order of the answer's fields; a mean by its bits, behind a 1; idle a 0.
+    pub answer: Result<Vec<u64>, Refusal>,
+    pub buffers: Vec<Vec<u16>>,
+    /// The listing, where it was asked for.
+    pub text: String,
+}
+
+/// Runs one input on one implementation.
+pub fn outcome(implementation: &dyn Implementation, input: &Input) -> Outcome {
+    let mut text = String::new();
+    let (answer, buffers) = match input.clone() {
+        Input::Read { file, mut words } => {
+            let answer = implementation.read(&file, &mut words);
+            (answer.map(|count| vec![count as u64]), vec![words])
+        }
+        Input::Check { words } => {
+            let answer = implementation.check(&words);
+            (answer.map(|()| Vec::new()), Vec::new())
+        }
+        Input::Parse {
+            words,
+            tokens,
+            mut edits,
+            mut rules,
+        } => {
+            let answer = implementation.parse(&words, &tokens, &mut edits, &mut rules);
+            let numbers = answer.map(|p| vec![p.moves, p.edits, p.rules]);
+            (numbers, vec![edits, rules])
+        }
+        Input::Report {
+            words,
+            tokens,
+            ticks,
+            mut edits,
+            mut rules,
+        } => {
+            let answer = implementation.report(&words, &tokens, &ticks, &mut edits, &mut rules);
+            let numbers = answer.map(|report| {
+                let mut numbers = vec![report.cycles, report.ms];
+                match report.pace {
+                    Pace::Idle => numbers.push(0),
+                    Pace::Mean(mean) => numbers.extend([1, mean.to_bits()]),
+                }
+                numbers
+            });
+            (numbers, vec![edits, rules])
+        }
+        Input::Listing { input } => {
+            text = implementation.listing(&input);
+            (refusal_of(&text), Vec::new())
+        }
+    };
+    Outcome {
+        answer,
+        buffers,
+        text,
+    }
+}
+
+/// The refusal that a listing prints, or the numbers of its first line.
+fn refusal_of(text: &str) -> Result<Vec<u64>, Refusal> {
+    let first = text.lines().next().unwrap_or_default();
+    match first.strip_prefix("refused ") {
+        Some(number) => Err(number.parse().unwrap_or(0)),
+        None => Ok(first.split(' ').filter_map(|w| w.parse().ok()).collect()),
+    }
+}
+
+impl Outcome {
+    /// Whether the outcome lists edits.
+    pub fn has_edits(&self, input: &Input) -> bool {
+        match (input, &self.answer) {
+            (Input::Parse { .. } | Input::Report { .. }, Ok(_)) => {
+                self.buffers[0].first().is_some_and(|&kind| kind != 0)
+            }
+            // tokens, moves, edits, rules
+            (Input::Listing { .. }, Ok(numbers)) => numbers[2] > 0,
+            _ => false,
+        }
+    }
+
+    /// Where two outcomes differ, in words; nothing where they do not.
+    pub fn difference(&self, other: &Outcome) -> Option<String> {
+        if self.answer != other.answer {
+            return Some(format!("answers: {:?} and {:?}", self.answer, other.answer));
+        }
+        for (number, (one, two)) in self.buffers.iter().zip(&other.buffers).enumerate() {
+            if let Some(at) = (0..one.len()).find(|&at| one[at] != two[at]) {
+                return Some(format!(
+                    "buffer {number}, word {at}: {} and {}",
+                    one[at], two[at]
+                ));
+            }
+        }
+        if self.text != other.text {
+            return Some(format!("listings:\n{}and\n{}", self.text, other.text));
+        }
+        None
+    }
+}

@@ -1,0 +1,16 @@
+//! The implementations that are compared and measured.
+
+use crate::answer::Implementation;
+use crate::plain::Plain;
+use crate::tuned::Tuned;
+
+/// Where the plain and the tuned implementation stand in [`all`]. The comparison holds every
+/// other one against the plain one, the benchmark gives ratios to the tuned one.
+pub const PLAIN: usize = 0;
+pub const TUNED: usize = 1;
+
+/// All implementations. A further one, such as a static library behind a C interface, joins
+/// every command by one more line here.
+pub fn all() -> Vec<Box<dyn Implementation>> {
+    vec![Box::new(Plain), Box::new(Tuned::default())]
+}

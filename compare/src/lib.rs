@@ -1,0 +1,18 @@
+//! An implementation of document 01 that shares nothing with the proved one, and what is
+//! needed to compare implementations with each other.
+//!
+//! * [`answer`]: what every implementation answers, and the trait they share;
+//! * [`plain`]: the plain implementation, a sentence of the document at a time;
+//! * [`tuned`]: the same answers, made for speed;
+//! * [`implementations`]: the list of those that are compared and measured;
+//! * [`generate`]: seeded inputs of every kind;
+//! * [`differ`]: runs one input on implementations and tells the first difference;
+//! * [`examples`]: the bench examples of document 01, expected results written by hand.
+
+pub mod answer;
+pub mod differ;
+pub mod examples;
+pub mod generate;
+pub mod implementations;
+pub mod plain;
+pub mod tuned;

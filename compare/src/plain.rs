@@ -1,0 +1,63 @@
+//! The plain implementation of document 01. It is meant to be read beside the document:
+//! sets are textbook fixpoints, the stack is inspected literally, and comments in quotes are
+//! the document's own words. Nothing here is made for speed.
+
+mod check;
+mod grammar;
+mod listing;
+mod pace;
+mod parse;
+mod reader;
+mod sets;
+
+pub use check::check;
+pub use grammar::{Grammar, Rule, END, START};
+pub use listing::listing;
+pub use pace::report;
+pub use parse::{needed, parse};
+pub use reader::read;
+pub use sets::{Sets, TerminalSet};
+
+use crate::answer::{Implementation, Parsed, Refusal, Report};
+
+/// The plain implementation as a column of the comparison.
+pub struct Plain;
+
+impl Implementation for Plain {
+    fn name(&self) -> &'static str {
+        "plain"
+    }
+
+    fn read(&self, file: &[u8], words: &mut [u16]) -> Result<usize, Refusal> {
+        read(file, words)
+    }
+
+    fn check(&self, words: &[u16]) -> Result<(), Refusal> {
+        check(words).map(|_| ())
+    }
+
+    fn parse(
+        &self,
+        words: &[u16],
+        tokens: &[u16],
+        edits: &mut [u16],
+        rules: &mut [u16],
+    ) -> Result<Parsed, Refusal> {
+        parse(words, tokens, edits, rules)
+    }
+
+    fn report(
+        &self,
+        words: &[u16],
+        tokens: &[u16],
+        ticks: &[u32],
+        edits: &mut [u16],
+        rules: &mut [u16],
+    ) -> Result<Report, Refusal> {
+        report(words, tokens, ticks, edits, rules)
+    }
+
+    fn listing(&self, input: &[u8]) -> String {
+        listing(input)
+    }
+}
