@@ -1,1 +1,4 @@
 pub mod Bits
+pub mod Operations
+pub mod Telling
+pub mod Laws

@@ -1,1 +1,45 @@
-// Sets of numbers below 64 as the bits of a u64. What they hold is `member` of specs/Bits.antt.
+// Sets of numbers below 64 as the bits of a u64. What they hold is `member` of specs/Bits.antt; specs/Laws.antt says of
+// `with` and `union` what they hold, that they never make the number smaller, and that a set is known by its members.
+// Each of these compiles to an instruction or two.
+ghost use mathlib.Core.Path.{_≡_};
+ghost use Prim.Native.Nat.{_<_};
+ghost use Rattle.sets.specs.Bits.{member};
+ghost use Rattle.sets.specs.Telling.{Tells};
+ghost use Rattle.sets.specs.Operations.{with, union, Shared, Within};
+
+// Number i is in the set.
+pub fn has(s: u64, i: u16) -> bool
+    requires { ⌜ i < 64 ⌝ }
+    ensures { λ r. ⌜ r ≡ member s i ⌝ }
+{
+    (s >> i) % 2 == 1
+}
+
+// The set, and i.
+pub fn with(s: u64, i: u16) -> u64
+    requires { ⌜ i < 64 ⌝ }
+    ensures { λ r. ⌜ r ≡ with s i ⌝ }
+{
+    s | (1u64 << i)
+}
+
+// What is in one of them.
+pub fn union(a: u64, b: u64) -> u64
+    ensures { λ r. ⌜ r ≡ union a b ⌝ }
+{
+    a | b
+}
+
+// Something is in both.
+pub fn shared(a: u64, b: u64) -> bool
+    ensures { λ r. ⌜ Tells (Shared a b) r ⌝ }
+{
+    (a & b) != 0
+}
+
+// All of a is in b.
+pub fn within(a: u64, b: u64) -> bool
+    ensures { λ r. ⌜ Tells (Within a b) r ⌝ }
+{
+    (a | b) == b
+}

@@ -1,1 +1,4 @@
 pub mod Ready
+pub mod Accessors
+pub mod Inside
+pub mod Parts

@@ -1,1 +1,287 @@
-// The shape of grammar words, and where each rule stands.
+// The shape of grammar words, where each rule stands, and what stands there. Refusal 5 is given exactly where the words
+// do not have the shape.
+ghost use mathlib.Core.Path.{_≡_};
+ghost use Prim.Native.Nat.{_+_, _≤_, _<_};
+ghost use lib.ListN.{length};
+ghost use Rattle.sets.specs.Telling.{Tells};
+ghost use Rattle.grammar.specs.Words.{
+  Marks,
+  RuleSymbol,
+  Shaped,
+  insertCost,
+  nonterminalCount,
+  reliability,
+  rightSize,
+  ruleCount,
+  terminalCount,
+};
+ghost use Rattle.shape.specs.Ready.{Ready};
+ghost use Rattle.shape.specs.Accessors.{LeftOf, SizeOf, StartOf, SymbolAt};
+ghost use Rattle.shape.specs.Parts.{
+  Between,
+  Decides,
+  HeaderRight,
+  RuleRight,
+  RulesRight,
+  SymbolsRight,
+  TerminalsRight,
+};
+
+// How many words the header has: the terminals' words begin behind it.
+const HEADER: usize = 6;
+
+// ---- The test
+
+// Whether the words have the shape; where they do, `places` holds the place of each rule. Any list of words may come, and
+// no word behind its end is read.
+pub fn shape(words: &[u16], places: &mut [u16]) -> bool
+    requires { ⌜ 256 ≤ length (now places) ⌝ }
+    ensures { λ r. ⌜ Decides (Ready (now (words .entry)) (now (places .exit))) (Shaped (now (words .entry))) r ⌝ }
+{
+    if header_right(words) {} else {
+        return false;
+    }
+    if terminals_right(words) {} else {
+        return false;
+    }
+    rules_right(words, places)
+}
+
+// The header, END's two words, and that the terminals' words lie inside the list.
+fn header_right(words: &[u16]) -> bool
+    ensures { λ r. ⌜ Tells (HeaderRight (now (words .entry))) r ⌝ }
+{
+    if words.len() < HEADER + 2 {
+        return false;
+    }
+    if between(words[0], 1, 64) {} else {
+        return false;
+    }
+    if between(words[1], 1, 64) {} else {
+        return false;
+    }
+    if between(words[2], 1, 256) {} else {
+        return false;
+    }
+    if marks_right(words[0], words[3], words[4]) {} else {
+        return false;
+    }
+    if between(words[5], 0, 1) {} else {
+        return false;
+    }
+    if words[HEADER] != 0 {
+        return false;
+    }
+    if words[HEADER + 1] != 0 {
+        return false;
+    }
+    HEADER + 2 * wide(words[0]) <= words.len()
+}
+
+// Each mark 1..T-1, or both 0.
+fn marks_right(t: u16, opening: u16, closing: u16) -> bool
+    ensures { λ r. ⌜ Tells (Marks t opening closing) r ⌝ }
+{
+    if opening == 0 {
+        return closing == 0;
+    }
+    if closing == 0 {
+        return false;
+    }
+    if opening < t {} else {
+        return false;
+    }
+    closing < t
+}
+
+// Cost 1..1,000 and reliability 0..60,000 of each terminal but END.
+fn terminals_right(words: &[u16]) -> bool
+    requires { ⌜ HeaderRight (now words) ⌝ }
+    ensures { λ r. ⌜ Tells (TerminalsRight (now (words .entry))) r ⌝ }
+{
+    let count = wide(words[0]);
+    let mut t = 1;
+    while t < count {
+        if between(words[HEADER + 2 * t], 1, 1000) {} else {
+            return false;
+        }
+        if between(words[HEADER + 2 * t + 1], 0, 60000) {} else {
+            return false;
+        }
+        t += 1;
+    }
+    true
+}
+
+// Every rule, where the one before it ends, and that the words end with the last.
+fn rules_right(words: &[u16], places: &mut [u16]) -> bool
+    requires { ⌜ HeaderRight (now words) ⌝ }
+    requires { ⌜ 256 ≤ length (now places) ⌝ }
+    ensures { λ r. ⌜ Decides (RulesRight (now (words .entry)) (now (places .exit))) (Shaped (now (words .entry))) r ⌝ }
+{
+    let count = wide(words[2]);
+    let mut at = HEADER + 2 * wide(words[0]);
+    let mut p = 0;
+    while p < count {
+        if rule_right(words, at, words[0], words[1]) {} else {
+            return false;
+        }
+        places[p] = at as u16;
+        at = at + 2 + wide(words[at + 1]);
+        p += 1;
+    }
+    at == words.len()
+}
+
+// The words of the rule at a place: its left side 0..N-1, its length 0..8, its symbols, all inside the list. It counts
+// what is left behind the place, so that no sum can overflow.
+fn rule_right(words: &[u16], at: usize, t: u16, n: u16) -> bool
+    requires { ⌜ at ≤ length (now words) ⌝ }
+    ensures { λ r. ⌜ Tells (RuleRight (now (words .entry)) at t n) r ⌝ }
+{
+    let left = words.len() - at;
+    if left < 2 {
+        return false;
+    }
+    if words[at] < n {} else {
+        return false;
+    }
+    let size = wide(words[at + 1]);
+    if 8 < size {
+        return false;
+    }
+    if left - 2 < size {
+        return false;
+    }
+    symbols_right(words, at + 2, size, t, n)
+}
+
+// The symbols of a right side that lies inside the list.
+fn symbols_right(words: &[u16], from: usize, size: usize, t: u16, n: u16) -> bool
+    requires { ⌜ from + size ≤ length (now words) ⌝ }
+    ensures { λ r. ⌜ Tells (SymbolsRight (now (words .entry)) from size t n) r ⌝ }
+{
+    let mut i = 0;
+    while i < size {
+        if symbol_right(words[from + i], t, n) {} else {
+            return false;
+        }
+        i += 1;
+    }
+    true
+}
+
+// A terminal 1..T-1 or a nonterminal 64..64+N-1.
+fn symbol_right(x: u16, t: u16, n: u16) -> bool
+    ensures { λ r. ⌜ Tells (RuleSymbol t n x) r ⌝ }
+{
+    if x == 0 {
+        return false;
+    }
+    if x < t {
+        return true;
+    }
+    if x < 64 {
+        return false;
+    }
+    x - 64 < n
+}
+
+// The word is in a range.
+fn between(x: u16, low: u16, high: u16) -> bool
+    ensures { λ r. ⌜ Tells (Between low high x) r ⌝ }
+{
+    if x < low {
+        return false;
+    }
+    x <= high
+}
+
+// ---- What stands in words that have the shape
+
+// T, terminals.
+pub fn terminal_count(words: &[u16]) -> usize
+    requires { ⌜ Shaped (now words) ⌝ }
+    ensures { λ r. ⌜ r ≡ terminalCount (now (words .entry)) ⌝ }
+{
+    wide(words[0])
+}
+
+// N, nonterminals.
+pub fn nonterminal_count(words: &[u16]) -> usize
+    requires { ⌜ Shaped (now words) ⌝ }
+    ensures { λ r. ⌜ r ≡ nonterminalCount (now (words .entry)) ⌝ }
+{
+    wide(words[1])
+}
+
+// P, rules.
+pub fn rule_count(words: &[u16]) -> usize
+    requires { ⌜ Shaped (now words) ⌝ }
+    ensures { λ r. ⌜ r ≡ ruleCount (now (words .entry)) ⌝ }
+{
+    wide(words[2])
+}
+
+// The insert cost of terminal t.
+pub fn insert_cost(words: &[u16], t: usize) -> u16
+    requires { ⌜ Shaped (now words) ⌝ }
+    requires { ⌜ t < terminalCount (now words) ⌝ }
+    ensures { λ r. ⌜ r ≡ insertCost (now (words .entry)) t ⌝ }
+{
+    words[HEADER + 2 * t]
+}
+
+// The reliability of terminal t, as it stands in the words; END's counts as unlimited.
+pub fn reliability_of(words: &[u16], t: usize) -> u16
+    requires { ⌜ Shaped (now words) ⌝ }
+    requires { ⌜ t < terminalCount (now words) ⌝ }
+    ensures { λ r. ⌜ r ≡ reliability (now (words .entry)) t ⌝ }
+{
+    words[HEADER + 2 * t + 1]
+}
+
+// Where rule p stands.
+pub fn start_of(words: &[u16], places: &[u16], p: usize) -> usize
+    requires { ⌜ Ready (now words) (now places) ⌝ }
+    requires { ⌜ p < ruleCount (now words) ⌝ }
+    ensures { λ r. ⌜ StartOf (now (words .entry)) p r ⌝ }
+{
+    wide(places[p])
+}
+
+// The number of rule p's left side, from 0: the symbol less 64.
+pub fn left_of(words: &[u16], places: &[u16], p: usize) -> u16
+    requires { ⌜ Ready (now words) (now places) ⌝ }
+    requires { ⌜ p < ruleCount (now words) ⌝ }
+    ensures { λ r. ⌜ LeftOf (now (words .entry)) p r ⌝ }
+{
+    words[start_of(words, places, p)]
+}
+
+// How many symbols rule p's right side has.
+pub fn size_of(words: &[u16], places: &[u16], p: usize) -> usize
+    requires { ⌜ Ready (now words) (now places) ⌝ }
+    requires { ⌜ p < ruleCount (now words) ⌝ }
+    ensures { λ r. ⌜ SizeOf (now (words .entry)) p r ⌝ }
+{
+    wide(words[start_of(words, places, p) + 1])
+}
+
+// Symbol i of rule p's right side.
+pub fn symbol_at(words: &[u16], places: &[u16], p: usize, i: usize) -> u16
+    requires { ⌜ Ready (now words) (now places) ⌝ }
+    requires { ⌜ p < ruleCount (now words) ⌝ }
+    requires { ⌜ i < rightSize (now words) p ⌝ }
+    ensures { λ r. ⌜ SymbolAt (now (words .entry)) p i r ⌝ }
+{
+    words[start_of(words, places, p) + 2 + i]
+}
+
+// A word, to count with.
+fn wide(x: u16) -> usize
+    ensures { λ r. ⌜ r ≡ x ⌝ }
+    ensures { λ r. ⌜ r < 65536 ⌝ }
+{
+    x as usize
+}

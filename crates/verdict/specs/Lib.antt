@@ -1,1 +1,5 @@
 pub mod Tables
+pub mod Judge
+pub mod Links
+pub mod Prices
+pub mod Answer

@@ -1,0 +1,36 @@
+-- `closure::ends` meets its contract: the set is sound; a round that does not change it shows that it is closed. The
+-- measure is what is left of 2 ^ 64.
+use native.Mathlib.Omega.{arith}
+use Prim.Native.Nat.{_-_, _^_}
+use Rattle.closure.specs.Growing.{Sound, EndsAt}
+use Rattle.closure.specs.Ending.{ends-exact}
+use Rattle.closure.proofs.Steps.{begun-empty}
+use Rattle.closure.proofs.ends.Statement.{statement}
+use Rattle.closure.proofs.ends.Tie as tie
+
+abbrev Inv-loop : tie.InvT-loop
+Inv-loop words places terminals s₀ s = Sound (EndsAt words terminals) s
+
+abbrev μ-loop : tie.MeasureT-loop
+μ-loop words places terminals s₀ s = 2 ^ 64 - s
+
+loop-holds : tie.Need-loop-holds Inv-loop μ-loop
+loop-holds c = begun-empty _
+
+end-round-requires : tie.Need-end-round-requires Inv-loop μ-loop
+end-round-requires c κs =
+    let start = c .before .before .before in
+    (start .pre, c .loop .inv)
+
+returns : tie.Need-returns Inv-loop μ-loop
+returns c = ends-exact _ _ _ (c .before .before .loop .inv) (c .before .end-round .ensures .closed (c .if1 .taken))
+
+loop-less : tie.Need-loop-less Inv-loop μ-loop
+loop-less c = omega (arith, c .before .end-round .ensures .bigger)
+
+loop-again : tie.Need-loop-again Inv-loop μ-loop
+loop-again c = c .before .end-round .ensures .sound
+
+pub ends-spec : {M : Type 1} → statement M
+ends-spec =
+    tie.close (tie.spec Inv-loop μ-loop loop-holds end-round-requires returns loop-less loop-again)

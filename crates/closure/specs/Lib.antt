@@ -1,0 +1,4 @@
+pub mod Masks
+pub mod Growing
+pub mod Ending
+pub mod Reaching

@@ -1,0 +1,4 @@
+pub mod Costed
+pub mod Falling
+pub mod Settled
+pub mod OnlyCosts

@@ -1,0 +1,53 @@
+-- Two tables of costs of the same words are equal.
+use Prim.Native.Nat.{ℕ, _+_, _-_, _≤_, _<_}
+use mathlib.Core.Path.{_≡_, sym, _∙_, subst}
+use mathlib.Core.List.{List}
+use mathlib.Core.Logic.{_⊎_, ⊎-elim}
+use native.Mathlib.Omega.{arith}
+use lib.ListN.{length, getD}
+use lib.Seq.{ext-getD}
+use Rattle.grammar.specs.Words.{terminalCount, nonterminalCount}
+use Rattle.costs.specs.Costed.{Costed}
+use Rattle.costs.specs.Falling.{below-or}
+
+module _ (ws l m : List ℕ) (one : Costed ws l) (two : Costed ws m) where
+  -- A cost that one table knows the other knows, and holds no lower.
+  no-lower : (k : ℕ) → k < nonterminalCount ws → getD l (64 + k) 0 ≤ 60000 → getD m (64 + k) 0 ≤ getD l (64 + k) 0
+  no-lower k h small =
+      let mine = one .exact k h small in
+      ⊎-elim
+      (λ known. omega (arith, two .exact k h (omega arith) .least (mine .string) (mine .yields), mine .costs))
+      (λ over. omega (arith, two .over k h over (mine .string) (mine .yields), mine .costs))
+      (below-or (getD m (64 + k) 0) 60001)
+
+pub costs-unique : (ws l m : List ℕ) → Costed ws l → Costed ws m → l ≡ m
+costs-unique ws l m one two = ext-getD 0 l m (one .size ∙ sym (two .size)) same
+  where
+    inner : (k : ℕ) → k < nonterminalCount ws → getD l (64 + k) 0 ≡ getD m (64 + k) 0
+    inner k h =
+        ⊎-elim
+        (λ known.
+        let up = no-lower ws l m one two k h (omega arith) in
+        omega (arith, no-lower ws m l two one k h (omega arith)))
+        (λ over.
+        ⊎-elim (λ known. omega (arith, no-lower ws m l two one k h (omega arith)))
+        (λ also. omega (arith, one .limit (64 + k), two .limit (64 + k)))
+        (below-or (getD m (64 + k) 0) 60001))
+        (below-or (getD l (64 + k) 0) 60001)
+
+    high : (X : ℕ) → 64 ≤ X → getD l X 0 ≡ getD m X 0
+    high X above =
+        ⊎-elim
+        (λ h.
+        let e : 64 + (X - 64) ≡ X = omega arith in
+        subst (λ Y. getD l Y 0 ≡ getD m Y 0) e (inner (X - 64) (omega arith)))
+        (λ h. one .beyond X h ∙ sym (two .beyond X h))
+        (below-or X (64 + nonterminalCount ws))
+
+    low : (X : ℕ) → X < 64 → getD l X 0 ≡ getD m X 0
+    low X below =
+        ⊎-elim (λ h. one .terminal X h ∙ sym (two .terminal X h)) (λ h. one .blank X h below ∙ sym (two .blank X h below))
+        (below-or X (terminalCount ws))
+
+    same : (X : ℕ) → X < length l → getD l X 0 ≡ getD m X 0
+    same X h = ⊎-elim (low X) (high X) (below-or X 64)

@@ -1,0 +1,6 @@
+pub mod Lists
+pub mod Opens
+pub mod Masks
+pub mod Asked
+pub mod Firsts
+pub mod Walk

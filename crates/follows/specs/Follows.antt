@@ -1,0 +1,118 @@
+-- FOLLOW by rounds, over START END, where every nonterminal is reachable: sound, complete, therefore exact.
+use Prim.Native.Nat.{ℕ, _+_, _-_, _≤_, _<_}
+use mathlib.Core.Path.{_≡_, refl, sym, ap, _∙_, subst}
+use mathlib.Core.Bool.{Bool, true, false}
+use mathlib.Core.List.{List, [], _∷_}
+use mathlib.Core.Logic.{_⊎_, _↔_, inl, inr, ⊎-elim}
+use native.Mathlib.Omega.{arith}
+use lib.ListN.{length, getD, replicate}
+use Rattle.grammar.specs.Words.{START, END, Terminal, terminalCount, nonterminalCount, ruleCount, leftSide, rightSide, RuleSymbol, Shaped}
+use Rattle.grammar.specs.Derivation.{All, First, Follow, Reachable}
+use Rattle.grammar.specs.Grammar.{RuleOf}
+use Rattle.grammar.specs.theory.Leftmost.{to-der}
+use Rattle.grammar.specs.theory.Closed.{ClosedFollow, closed-follow, Followed, followed-at, Begins}
+use Rattle.grammar.specs.model.Wording.{right-symbols}
+use Rattle.sets.specs.Bits.{member}
+use Rattle.growth.specs.Turns.{Turn, Every}
+use Rattle.firsts.specs.Lists.{Fades, Starts, all-empty, begins-first, empty-closed, first-closed, first-self, terminal-first}
+use Rattle.firsts.specs.Opens.{Opens}
+use Rattle.firsts.specs.Masks.{NullMask, FirstsOf, rule-left, opens-exact}
+use Rattle.firsts.specs.Asked.{Asked}
+
+-- The table holds FOLLOW of each nonterminal.
+pub record FollowsOf (ws follows : List ℕ) : Type 0 where
+  pub follow : (k t : ℕ) → k < nonterminalCount ws → Terminal t
+      → (member (getD follows k 0) t ≡ true) ↔ Follow (RuleOf ws) (START ∷ END ∷ []) (64 + k) t
+
+-- Every nonterminal is reachable from START.
+abbrev pub Reached : List ℕ → Type 0
+Reached ws = (k : ℕ) → k < nonterminalCount ws → Reachable (RuleOf ws) (START ∷ []) (64 + k)
+
+-- What the search for FOLLOW asks: masks that are exact, every nonterminal reachable, and a table of 64 sets.
+pub record Needed (ws places : List ℕ) (null : ℕ) (firsts follows : List ℕ) : Type 0 where
+  pub asked : Asked ws places null firsts
+  pub exact : FirstsOf ws firsts
+  pub reached : Reached ws
+  pub size : length follows ≡ 64
+
+-- Every token in a set is in FOLLOW of its nonterminal.
+abbrev pub SoundFollows : List ℕ → List ℕ → Type 0
+SoundFollows ws l = (k t : ℕ) → Terminal t → member (getD l k 0) t ≡ true → Follow (RuleOf ws) (START ∷ END ∷ []) (64 + k) t
+
+-- Each nonterminal of the list has t in its set, where t begins what stands behind it, `base` behind the list.
+pub data Fed (null : ℕ) (firsts : List ℕ) (base t : ℕ) (l : List ℕ) : List ℕ → Type 0 where
+  nothing : Fed null firsts base t l []
+  also : {X : ℕ} {α : List ℕ} → (64 ≤ X → Opens null firsts base t α → member (getD l (X - 64) 0) t ≡ true) → Fed null firsts base t l α
+      → Fed null firsts base t l (X ∷ α)
+
+-- The right side of rule p is fed, with what follows its left side behind it.
+abbrev pub ClosedFollows : List ℕ → ℕ → List ℕ → ℕ → List ℕ → Type 0
+ClosedFollows ws null firsts p l = (k t : ℕ) → leftSide ws p ≡ 64 + k → Fed null firsts (getD l k 0) t l (rightSide ws p)
+
+-- What a rule, and what a round over all rules, does to the table.
+abbrev pub RuleTurn : List ℕ → ℕ → List ℕ → ℕ → List ℕ → List ℕ → Bool → Type 0
+RuleTurn ws null firsts p = Turn (SoundFollows ws) (ClosedFollows ws null firsts p)
+
+abbrev pub RoundTurn : List ℕ → ℕ → List ℕ → List ℕ → List ℕ → Bool → Type 0
+RoundTurn ws null firsts = Turn (SoundFollows ws) (Every (ruleCount ws) (ClosedFollows ws null firsts))
+
+-- ---- Complete
+
+module _
+    (ws : List ℕ)
+    (s : Shaped ws)
+    (null : ℕ)
+    (nulls : NullMask ws null)
+    (firsts : List ℕ)
+    (exact : FirstsOf ws firsts)
+    (l : List ℕ) where
+  -- X is a terminal, or has t in its set.
+  abbrev Behind : ℕ → ℕ → Type 0
+  Behind t X = (X < 64) ⊎ (member (getD l (X - 64) 0) t ≡ true)
+
+  behind : (t X : ℕ) → RuleSymbol (terminalCount ws) (nonterminalCount ws) X → (64 ≤ X → member (getD l (X - 64) 0) t ≡ true) → Behind t X
+  behind t X (RuleSymbol.terminal a b) f = inl (omega (arith, s .terminals-high))
+  behind t X (RuleSymbol.nonterminal a b) f = inr (f a)
+
+  feeds : (t : ℕ) → Terminal t → (base : ℕ) (E : Type 0) → (E → member base t ≡ true) → {α : List ℕ}
+      → All (RuleSymbol (terminalCount ws) (nonterminalCount ws)) α → Fed null firsts base t l α
+      → Followed (Fades (RuleOf ws)) (Starts (RuleOf ws) t) (Behind t) E α
+  feeds t i base E g a Fed.nothing = Followed.nothing
+  feeds t i base E g (All.also {x = X} c a) (Fed.also {α = α} f rest) =
+      let opens = opens-exact ws s null nulls firsts exact t i {base = base} a .1 in
+      Followed.also
+      (λ b. behind t X c (λ h. f h (opens (inl (begins-first (RuleOf ws) i b)))))
+      (λ n e. behind t X c (λ h. f h (opens (inr (all-empty (RuleOf ws) n, g e)))))
+      (feeds t i base E g a rest)
+
+  module _ (closed : Every (ruleCount ws) (ClosedFollows ws null firsts) l) (start : member (getD l 0 0) END ≡ true) where
+    rules-closed : (t : ℕ) → Terminal t → ClosedFollow (RuleOf ws) (Fades (RuleOf ws)) (Starts (RuleOf ws) t) (Behind t)
+    rules-closed t i p A β r =
+        let low = rule-left ws p A β r in
+        subst (Followed (Fades (RuleOf ws)) (Starts (RuleOf ws) t) (Behind t) (Behind t A)) (sym (r .right))
+        (feeds t i (getD l (A - 64) 0) (Behind t A) (⊎-elim (λ h. absurd (omega arith)) (λ m. m)) (right-symbols ws s p (r .counted))
+        (closed p (r .counted) (A - 64) t (omega (arith, r .left))))
+
+    end-first : (t : ℕ) → Begins (Fades (RuleOf ws)) (Starts (RuleOf ws) t) (END ∷ []) → END ≡ t
+    end-first t (Begins.here h) = terminal-first (RuleOf ws) (rule-left ws) END t (omega arith) h
+
+    begins : (t : ℕ) → Followed (Fades (RuleOf ws)) (Starts (RuleOf ws) t) (Behind t) ⊥ (START ∷ END ∷ [])
+    begins t =
+        let low : END < 64 = omega arith in
+        Followed.also (λ b. inr (subst (λ n. member (getD l 0 0) n ≡ true) (end-first t b) start)) (λ a e. absurd e)
+        (Followed.also {X = END} (λ b. inl low) (λ a e. absurd e) Followed.nothing)
+
+    complete : (k t : ℕ) → Follow (RuleOf ws) (START ∷ END ∷ []) (64 + k) t → member (getD l k 0) t ≡ true
+    complete k t f =
+        let e : 64 + k - 64 ≡ k = omega arith in
+        let i = f .token in
+        ⊎-elim (λ h. absurd (omega arith)) (λ m. subst (λ n. member (getD l n 0) t ≡ true) e m)
+        (followed-at (f .front)
+        (closed-follow (RuleOf ws) (Fades (RuleOf ws)) (Starts (RuleOf ws) t) (Behind t) (empty-closed (RuleOf ws))
+        (first-closed (RuleOf ws) t i) (rules-closed t i) ⊥ (to-der (RuleOf ws) (f .stands)) (begins t))
+        (Begins.here (first-self (RuleOf ws) t i)))
+
+    -- ---- Exact
+
+    pub follows-exact : SoundFollows ws l → FollowsOf ws l
+    follows-exact f = record { follow = λ k t h i. (f k t i, complete k t) }

@@ -1,0 +1,2 @@
+pub mod Predicts
+pub mod Seen

@@ -1,0 +1,16 @@
+-- `sets::has` meets its contract, by the definition of `member`.
+use mathlib.Core.Path.{refl}
+use borrow.Author.Needs.{needs}
+use Rattle.sets.specs.Bits.{member}
+use Rattle.sets.proofs.has.Statement.{statement}
+use Rattle.sets.proofs.has.Tie as tie
+
+shr-result : tie.Need-shr-result
+shr-result c = search needs
+
+returns : tie.Need-returns
+unfolding member
+returns c = refl
+
+pub has-spec : {M : Type 1} → statement M
+has-spec = tie.close (tie.spec shr-result returns)

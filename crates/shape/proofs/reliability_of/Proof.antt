@@ -1,0 +1,29 @@
+-- `shape::reliability_of` meets its contract: the terminals' words lie inside the list.
+use native.Mathlib.Omega.{arith}
+use Rattle.shape.specs.Inside.{header-inside}
+use borrow.Author.Needs.{needs}
+use Rattle.shape.proofs.reliability_of.Statement.{statement}
+use Rattle.shape.proofs.reliability_of.Tie as tie
+
+mul-result : tie.Need-mul-result
+mul-result c = search needs
+
+add-result : tie.Need-add-result
+add-result c = search needs
+
+add-result-2 : tie.Need-add-result-2
+add-result-2 c = search needs
+
+mul-result-2 : tie.Need-mul-result-2
+mul-result-2 c = search needs
+
+shared-slice-read-result : tie.Need-shared-slice-read-result
+shared-slice-read-result c = omega (arith, header-inside _ (c .before .pre .0))
+
+returns : tie.Need-returns
+returns c = search needs
+
+pub reliability-of-spec : {M : Type 1} → statement M
+reliability-of-spec =
+    tie.close
+    (tie.spec mul-result add-result add-result-2 mul-result-2 shared-slice-read-result returns)
