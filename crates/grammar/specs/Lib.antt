@@ -8,6 +8,7 @@ pub mod File
 pub mod Moves
 pub mod Run
 pub mod Pace
+pub mod Listing
 pub mod Refusals
 -- What follows from them. Nothing above uses anything of these.
 pub mod theory

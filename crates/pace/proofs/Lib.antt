@@ -1,0 +1,6 @@
+-- What the proofs of several functions cite.
+pub mod Passing
+pub mod Looking
+pub mod Watching
+pub mod Clearing
+pub mod Answering

@@ -1,0 +1,72 @@
+-- `pace::Watch::passed` meets its contract: each branch is one `cond` of `passedBy`.
+use borrow.Author.Needs.{needs}
+use borrow.Author.Tests.{eq-eqb, ne-eqb}
+use mathlib.Core.Path.{_≡_, sym, _∙_, subst}
+use mathlib.Core.Bool.{cond}
+use mathlib.Core.Logic.{⊎-elim}
+use lib.Dec.{eqb}
+use Rattle.pace.specs.Watch.{Small, spoiledBy, closedBy}
+use Rattle.pace.proofs.Passing.{cond-true, cond-false, passed-deleted, passed-kept, small-spoiled}
+use Rattle.pace.proofs.Watch.passed.Statement.{statement}
+use Rattle.pace.proofs.Watch.passed.Tie as tie
+
+-- The watch behind the edits.
+spoiled-is : (c : tie.Joined1) →
+    let start = c .before .args in
+    c .if1 .watch ≡ cond (start .here .edited) (spoiledBy (start .self)) (start .self)
+spoiled-is c =
+    ⊎-elim
+    (λ w. w .2 ∙ (w .1 .ensures ∙ sym (cond-true _ _ _ (w .0 .taken))))
+    (λ w. w .1 ∙ sym (cond-false _ _ _ (w .0 .left)))
+    (c .if1 .came)
+
+-- The watch behind the closing mark.
+closed-is : (c : tie.Joined3) →
+    let start = c .before .before .before .before .args in
+    let v = c .before .before .before .if1 .watch in
+    c .if3 .watch ≡ cond (eqb (start .token) (start .marks .closing)) (closedBy (start .marks .unit) (start .tick) v) v
+closed-is c =
+    ⊎-elim
+    (λ w. w .2 ∙ (w .1 .ensures ∙ sym (cond-true _ _ _ (eq-eqb _ _ (w .0 .taken)))))
+    (λ w. w .1 ∙ sym (cond-false _ _ _ (ne-eqb _ _ (w .0 .left))))
+    (c .if3 .came)
+
+spoiled-requires : tie.Need-spoiled-requires
+spoiled-requires c κs = search needs
+
+returns : tie.Need-returns
+returns c =
+    let start = c .before .before .args in
+    passed-deleted (start .marks) (start .here) (start .token) (start .tick) (start .self) (c .before .if1 .watch) (c .if2 .taken)
+    (spoiled-is (c .before))
+
+closed-requires : tie.Need-closed-requires
+closed-requires c κs =
+    let joined = c .before .before .before in
+    let start = joined .before in
+    subst Small (sym (spoiled-is joined)) (small-spoiled (start .args .here .edited) (start .args .self) (start .pre))
+
+opened-requires : tie.Need-opened-requires
+opened-requires c κs = search needs
+
+returns-2 : tie.Need-returns-2
+returns-2 c =
+    let joined = c .before .before .before in
+    let left = joined .before .before in
+    let start = left .before .before .args in
+    passed-kept (start .marks) (start .here) (start .token) (start .tick) (start .self) (left .before .if1 .watch) (joined .if3 .watch)
+    (c .opened .result) (left .if2 .left) (spoiled-is (left .before)) (closed-is joined)
+    (c .opened .ensures ∙ sym (cond-true _ _ _ (eq-eqb _ _ (c .before .if4 .taken))))
+
+returns-3 : tie.Need-returns-3
+returns-3 c =
+    let joined = c .before .before in
+    let left = joined .before .before in
+    let start = left .before .before .args in
+    passed-kept (start .marks) (start .here) (start .token) (start .tick) (start .self) (left .before .if1 .watch) (joined .if3 .watch)
+    (joined .if3 .watch) (left .if2 .left) (spoiled-is (left .before)) (closed-is joined)
+    (sym (cond-false _ _ _ (ne-eqb _ _ (c .if4 .left))))
+
+pub passed-spec : {M : Type 1} → statement M
+passed-spec =
+    tie.close (tie.spec spoiled-requires returns closed-requires opened-requires returns-2 returns-3)

@@ -1,0 +1,267 @@
+-- What a watch knows before a place: the clean cycles that close before it, and whether a cycle is open there that is clean
+-- so far. Each place keeps this: its edits, then its closing mark, then its opening mark.
+use Prim.Native.Nat.{ℕ, _+_, _*_, _≤_, _<_}
+use mathlib.Core.Path.{_≡_, refl, sym, ap, _∙_, subst}
+use mathlib.Core.Bool.{Bool, true, false, cond, true≢false, false≢true}
+use mathlib.Core.List.{List}
+use mathlib.Core.Logic.{⊎-elim}
+use native.Mathlib.Omega.{arith}
+use lib.ListN.{getD}
+use Rattle.grammar.specs.Moves.{Move}
+use Rattle.grammar.specs.Pace.{Kept, Edited, Span, Clean, wrapped, unitMs, cycleMs}
+use Rattle.pace.specs.Found.{Found, found-start, found-none, found-one}
+use Rattle.pace.specs.Order.{below-or-not, below-next}
+use Rattle.pace.specs.Watch.{Tells, spoiledBy, closedBy, openedBy, stepBy}
+use Rattle.pace.specs.declared.Watch.{Watch}
+
+-- An opening mark is kept at place a, and behind it there is no kept opening mark before x, no kept closing mark before y and
+-- no edit before e.
+pub record OpenAt (o c : ℕ) (ms : List Move) (x y e a : ℕ) : Type 0 where
+  pub marked : 1 ≤ o
+  pub earlier : a < x
+  pub opens : Kept ms a o
+  pub no-opening : (p : ℕ) → a < p → p < x → Kept ms p o → ⊥
+  pub no-closing : (p : ℕ) → a < p → p < y → Kept ms p c → ⊥
+  pub unedited : (p : ℕ) → a < p → p < e → Edited ms p → ⊥
+
+-- The watch stands at b: what it found, and whether a cycle is open.
+pub record Standing (o c unit : ℕ) (ticks : List ℕ) (ms : List Move) (b x y e : ℕ) (w : Watch) : Type 0 where
+  pub found : Found o c unit ticks ms b (w .count) (w .sum)
+  pub begun : w .begun ≡ true → (a : ℕ) × OpenAt o c ms x y e a × (w .since ≡ getD ticks a 0)
+  pub idle : w .begun ≡ false → (a : ℕ) → OpenAt o c ms x y e a → ⊥
+
+-- ---- The stages
+
+module _ (o c unit : ℕ) (ticks : List ℕ) (ms : List Move) where
+  -- Nothing is found before the first place.
+  pub standing-start : (since : ℕ) → Standing o c unit ticks ms 0 0 0 0 (record { begun = false; since = since; count = 0; sum = 0 })
+  standing-start since =
+      record {
+        found = found-start o c unit ticks ms;
+        begun = λ e. absurd (false≢true e);
+        idle = λ e a h. omega (arith, h .earlier);
+      }
+
+  module _ (b : ℕ) where
+    -- First the edits at b: any of them spoils the open cycle.
+    stage-edits : (edited : Bool) (w : Watch) → Tells (Edited ms b) edited → Standing o c unit ticks ms b b b b w
+        → Standing o c unit ticks ms b b b (b + 1) (cond edited (spoiledBy w) w)
+    unfolding spoiledBy
+    stage-edits true w t s =
+        record {
+          found = s .found;
+          begun = λ e. absurd (false≢true e);
+          idle = λ e a h. h .unedited b (h .earlier) (omega arith) (t .yes refl);
+        }
+    stage-edits false w t s =
+        record {
+          found = s .found;
+          begun = λ e.
+              let h = s .begun e in
+              let k = h .1 in (
+                h .0,
+                record {
+                  marked = k .marked;
+                  earlier = k .earlier;
+                  opens = k .opens;
+                  no-opening = k .no-opening;
+                  no-closing = k .no-closing;
+                  unedited = λ p l m. below-next (λ q. Edited ms q → ⊥) p b m (λ n. k .unedited p l n) (t .no refl);
+                },
+                h .2,
+              );
+          idle = λ e a k.
+              s .idle e a
+              (record {
+                marked = k .marked;
+                earlier = k .earlier;
+                opens = k .opens;
+                no-opening = k .no-opening;
+                no-closing = k .no-closing;
+                unedited = λ p l m. k .unedited p l (omega arith);
+              });
+        }
+
+    -- What is open before b, with no edit up to b, and a closing mark kept at b are a clean cycle; and so the other way.
+    open-clean : (a : ℕ) → OpenAt o c ms b b (b + 1) a → Kept ms b c → Clean o c ms (record { opened = a; closed = b })
+    open-clean a h k =
+        record {
+          cycle =
+              record {
+                marked = h .marked;
+                ordered = h .earlier;
+                opens = h .opens;
+                closes = k;
+                no-opening = h .no-opening;
+                no-closing = h .no-closing;
+              };
+          unedited = λ p l m. h .unedited p l (omega arith);
+        }
+
+    clean-open : (s : Span) → Clean o c ms s → s .closed ≡ b → OpenAt o c ms b b (b + 1) (s .opened)
+    clean-open s y e =
+        record {
+          marked = y .cycle .marked;
+          earlier = omega (arith, y .cycle .ordered);
+          opens = y .cycle .opens;
+          no-opening = λ p l m. y .cycle .no-opening p l (omega arith);
+          no-closing = λ p l m. y .cycle .no-closing p l (omega arith);
+          unedited = λ p l m. y .unedited p l (omega arith);
+        }
+
+    -- One place only is open.
+    open-one : (a d : ℕ) → OpenAt o c ms b b (b + 1) a → OpenAt o c ms b b (b + 1) d → a ≡ d
+    open-one a d h k =
+        ⊎-elim
+        (λ l. absurd (h .no-opening d l (k .earlier) (k .opens)))
+        (λ l.
+        ⊎-elim
+        (λ m. absurd (k .no-opening a m (h .earlier) (h .opens)))
+        (λ m. omega arith)
+        (below-or-not d a))
+        (below-or-not a d)
+
+    -- Then the closing mark: it counts the open cycle, and ends it.
+    close-begun : (tick : ℕ) (w : Watch) → tick ≡ getD ticks b 0 → Kept ms b c → w .begun ≡ true
+        → Standing o c unit ticks ms b b b (b + 1) w
+        → Found o c unit ticks ms (b + 1) (w .count + 1) (w .sum + wrapped (w .since) tick * unitMs unit)
+    unfolding cycleMs
+    close-begun tick w t k e s =
+        let h = s .begun e in
+        let u : Span = record { opened = h .0; closed = b } in
+        let time : cycleMs unit ticks u ≡ wrapped (w .since) tick * unitMs unit =
+        sym (ap (λ (z : ℕ). wrapped z tick * unitMs unit) (h .2) ∙ ap (λ (z : ℕ). wrapped (getD ticks (h .0) 0) z * unitMs unit) t) in
+        subst (λ (z : ℕ). Found o c unit ticks ms (b + 1) (w .count + 1) (w .sum + z)) time
+        (found-one o c unit ticks ms b u refl (open-clean (h .0) (h .1) k)
+        (λ v y d.
+        let same : v .opened ≡ h .0 = open-one (v .opened) (h .0) (clean-open v y d) (h .1) in
+        ap (λ (z : ℕ). record { opened = z; closed = v .closed }) same ∙ ap (λ (z : ℕ). record { opened = h .0; closed = z }) d)
+        (s .found))
+
+    -- Nothing is open at b once a closing mark is kept there.
+    ended : Kept ms b c → (a : ℕ) → OpenAt o c ms b (b + 1) (b + 1) a → ⊥
+    ended k a h = h .no-closing b (h .earlier) (omega arith) k
+
+    stage-close : (tick : ℕ) (w : Watch) → tick ≡ getD ticks b 0 → Kept ms b c → Standing o c unit ticks ms b b b (b + 1) w
+        → Standing o c unit ticks ms (b + 1) b (b + 1) (b + 1) (closedBy unit tick w)
+    unfolding closedBy
+    stage-close tick w t k s = go (w .begun) refl
+      where
+        go : (q : Bool) → w .begun ≡ q
+            → Standing o c unit ticks ms (b + 1) b (b + 1) (b + 1)
+            (cond q
+            (record { begun = false; since = w .since; count = w .count + 1; sum = w .sum + wrapped (w .since) tick * unitMs unit })
+            w)
+        go true e =
+            record {
+              found = close-begun tick w t k e s;
+              begun = λ f. absurd (false≢true f);
+              idle = λ f. ended k;
+            }
+        go false e =
+            record {
+              found = found-none o c unit ticks ms b (λ v y d. s .idle e (v .opened) (clean-open v y d)) (s .found);
+              begun = λ f. absurd (true≢false (sym f ∙ e));
+              idle = λ f. ended k;
+            }
+
+    stage-closing : (closes : Bool) (tick : ℕ) (w : Watch) → tick ≡ getD ticks b 0 → Tells (Kept ms b c) closes
+        → Standing o c unit ticks ms b b b (b + 1) w
+        → Standing o c unit ticks ms (b + 1) b (b + 1) (b + 1) (cond closes (closedBy unit tick w) w)
+    stage-closing true tick w t k s = stage-close tick w t (k .yes refl) s
+    stage-closing false tick w t n s =
+        record {
+          found = found-none o c unit ticks ms b (λ v y d. n .no refl (subst (λ q. Kept ms q c) d (y .cycle .closes))) (s .found);
+          begun = λ e.
+              let h = s .begun e in
+              let k = h .1 in (
+                h .0,
+                record {
+                  marked = k .marked;
+                  earlier = k .earlier;
+                  opens = k .opens;
+                  no-opening = k .no-opening;
+                  no-closing = λ p l m. below-next (λ q. Kept ms q c → ⊥) p b m (λ i. k .no-closing p l i) (n .no refl);
+                  unedited = k .unedited;
+                },
+                h .2,
+              );
+          idle = λ e a k.
+              s .idle e a
+              (record {
+                marked = k .marked;
+                earlier = k .earlier;
+                opens = k .opens;
+                no-opening = k .no-opening;
+                no-closing = λ p l m. k .no-closing p l (omega arith);
+                unedited = k .unedited;
+              });
+        }
+
+    -- Last the opening mark: a cycle is open from b on. An edit at b was before it.
+    opened-here : 1 ≤ o → Kept ms b o → OpenAt o c ms (b + 1) (b + 1) (b + 1) b
+    opened-here l k =
+        record {
+          marked = l;
+          earlier = omega arith;
+          opens = k;
+          no-opening = λ p h m. absurd (omega arith);
+          no-closing = λ p h m. absurd (omega arith);
+          unedited = λ p h m. absurd (omega arith);
+        }
+
+    -- Without one, what was open stays open.
+    open-still : (a : ℕ) → (Kept ms b o → ⊥) → OpenAt o c ms b (b + 1) (b + 1) a → OpenAt o c ms (b + 1) (b + 1) (b + 1) a
+    open-still a n k =
+        record {
+          marked = k .marked;
+          earlier = omega (arith, k .earlier);
+          opens = k .opens;
+          no-opening = λ p l m. below-next (λ q. Kept ms q o → ⊥) p b m (λ i. k .no-opening p l i) n;
+          no-closing = k .no-closing;
+          unedited = k .unedited;
+        }
+
+    open-before : (a : ℕ) → a < b → OpenAt o c ms (b + 1) (b + 1) (b + 1) a → OpenAt o c ms b (b + 1) (b + 1) a
+    open-before a l k =
+        record {
+          marked = k .marked;
+          earlier = l;
+          opens = k .opens;
+          no-opening = λ p h m. k .no-opening p h (omega arith);
+          no-closing = k .no-closing;
+          unedited = k .unedited;
+        }
+
+    stage-opening : (opens : Bool) (tick : ℕ) (w : Watch) → tick ≡ getD ticks b 0 → (opens ≡ true → 1 ≤ o) → Tells (Kept ms b o) opens
+        → Standing o c unit ticks ms (b + 1) b (b + 1) (b + 1) w
+        → Standing o c unit ticks ms (b + 1) (b + 1) (b + 1) (b + 1) (cond opens (openedBy tick w) w)
+    unfolding openedBy
+    stage-opening true tick w t l k s =
+        record {
+          found = s .found;
+          begun = λ e. (b, opened-here (l refl) (k .yes refl), t);
+          idle = λ e. absurd (true≢false e);
+        }
+    stage-opening false tick w t l n s =
+        record {
+          found = s .found;
+          begun = λ e. let h = s .begun e in (h .0, open-still (h .0) (n .no refl) (h .1), h .2);
+          idle = λ e a k.
+              ⊎-elim
+              (λ m. s .idle e a (open-before a m k))
+              (λ m.
+              let d : a ≡ b = omega (arith, k .earlier) in
+              n .no refl (subst (λ q. Kept ms q o) d (k .opens)))
+              (below-or-not a b);
+        }
+
+    -- A place is passed.
+    pub standing-next : (edited closes opens : Bool) (tick : ℕ) (w : Watch) → tick ≡ getD ticks b 0 → (opens ≡ true → 1 ≤ o)
+        → Tells (Edited ms b) edited → Tells (Kept ms b c) closes → Tells (Kept ms b o) opens → Standing o c unit ticks ms b b b b w
+        → Standing o c unit ticks ms (b + 1) (b + 1) (b + 1) (b + 1) (stepBy edited closes opens unit tick w)
+    unfolding stepBy
+    standing-next edited closes opens tick w t l x y z s =
+        let spoiled = cond edited (spoiledBy w) w in
+        let closed = cond closes (closedBy unit tick spoiled) spoiled in
+        stage-opening opens tick closed t l z (stage-closing closes tick spoiled t y (stage-edits edited w x s))

@@ -1,0 +1,63 @@
+-- The theorems to read first: what document 01, "Pace", promises of a report, for all words, logs, ticks and buffers. `Reported`
+-- is the contract of the report; each theorem is proved by citing Told.antt.
+use Prim.Native.Nat.{ℕ, _-_, _*_, _%_, _≤_, _<_}
+use mathlib.Core.Path.{_≡_, ap}
+use mathlib.Core.List.{List}
+use mathlib.Core.Logic.{_↔_}
+use mathlib.Core.Option.{none}
+use native.Mathlib.Omega.{arith}
+use lib.ListN.{getD}
+use lib.IntN.{pos}
+use lib.Ieee.{binary64, ofInt, toUnsigned}
+use Rattle.grammar.specs.Words.{opening, closing}
+use Rattle.grammar.specs.Moves.{Move}
+use Rattle.grammar.specs.Refusals.{given}
+use Rattle.grammar.specs.Run.{RunOf}
+use Rattle.grammar.specs.Pace.{Span, Clean, unitMs, cycleMs, Reported}
+use Rattle.grammar.specs.declared.Pace.the-variants.{Idle}
+use Rattle.grammar.specs.declared.Report.{Report}
+use Rattle.grammar.specs.theory.Demands as Demands
+use Rattle.pace.specs.Answer.{pacedOf, paced-same}
+use Rattle.pace.specs.Told.{told, idle-no-cycle, no-cycle-idle, told-4095, told-most, wrapped-true}
+use Rattle.pace.specs.Exact.{exact}
+use Rattle.pace.specs.declared.Paced.{Paced}
+
+-- The report is the only one, and so is every word of the buffers.
+pub report-unique : {ws log ticks : List ℕ} {editRoom ruleRoom : ℕ} (r s : Paced) {x y u v : List ℕ}
+    → Reported ws log ticks editRoom ruleRoom (pacedOf r) x u → Reported ws log ticks editRoom ruleRoom (pacedOf s) y v
+    → (r ≡ s) × (x ≡ y) × (u ≡ v)
+report-unique r s p q =
+    let same = Demands.reported-unique p q in
+    (paced-same r s (same .0), same .1, same .2)
+
+module _ {ws log ticks : List ℕ} {editRoom ruleRoom : ℕ} {report : Report} {x y : List ℕ}
+    (reported : Reported ws log ticks editRoom ruleRoom (given report) x y) where
+  -- The station is idle exactly when no clean cycle exists in the run, whose moves are ms.
+  pub idle-exactly : {ms : List Move} → RunOf ws log editRoom ruleRoom ms none
+      → (report .pace ≡ Idle) ↔ ((s : Span) → Clean (opening ws) (closing ws) ms s → ⊥)
+  idle-exactly run = (idle-no-cycle (told reported) run, no-cycle-idle (told reported) run)
+
+  -- A log has at most 4,095 clean cycles,
+  pub count-bounded : report .count ≤ 4095
+  count-bounded = told-4095 (told reported)
+
+  -- each of at most 4,294,967,295 ticks of 10 ms.
+  pub sum-bounded : report .sum ≤ report .count * (4294967295 * 10)
+  sum-bounded = told-most (told reported)
+
+  -- So sum and count become floats without loss.
+  pub sum-exact : toUnsigned 64 (ofInt binary64 (pos (report .sum))) ≡ report .sum
+  sum-exact = exact (report .sum) (omega (arith, count-bounded, sum-bounded))
+
+  pub count-exact : toUnsigned 64 (ofInt binary64 (pos (report .count))) ≡ report .count
+  count-exact = exact (report .count) (omega (arith, count-bounded))
+
+-- "This is the true time where that is below 2^32 ticks": the ticks of a cycle are the remainders of true times, in ticks, of
+-- which the second is the later; its time in ms is their difference, times the unit.
+pub true-time : (unit : ℕ) (ticks : List ℕ) (s : Span) (from to : ℕ) → getD ticks (s .opened) 0 ≡ from % 4294967296
+    → getD ticks (s .closed) 0 ≡ to % 4294967296 → from ≤ to → to - from < 4294967296
+    → cycleMs unit ticks s ≡ (to - from) * unitMs unit
+unfolding cycleMs
+true-time unit ticks s from to e f l below =
+    ap (λ (t : ℕ). t * unitMs unit)
+    (wrapped-true (getD ticks (s .opened) 0) (getD ticks (s .closed) 0) from to e f l below)

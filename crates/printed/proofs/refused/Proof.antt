@@ -1,0 +1,43 @@
+-- `printed::refused` meets its contract: the parts of `refusedLine`, one behind the other.
+use Prim.Native.Nat.{ℕ}
+use mathlib.Core.Path.{ap}
+use mathlib.Core.List.{_++_}
+use Rattle.grammar.specs.Listing.{ascii, field, refusedLine, newline}
+use Rattle.printed.proofs.Writing.{put-then, put-as, put-all}
+use borrow.Author.Needs.{needs}
+use Rattle.printed.proofs.refused.Statement.{statement}
+use Rattle.printed.proofs.refused.Tie as tie
+
+slice-aggregate-put-field : tie.Need-slice-aggregate-put-field
+slice-aggregate-put-field c = search needs
+
+refusal-number-requires : tie.Need-refusal-number-requires
+refusal-number-requires c κs = search needs
+
+put-field-requires : tie.Need-put-field-requires
+put-field-requires c κs = search needs
+
+put-byte-requires : tie.Need-put-byte-requires
+put-byte-requires c κs = search needs
+
+same-length : tie.Need-same-length
+same-length c = search needs
+
+returns : tie.Need-returns
+unfolding ascii field refusedLine
+returns c =
+    let word = c .before .before .before .before .before .before in
+    put-all
+    (put-as (put-then (word .put-field .ensures) (c .before .before .put-byte .ensures))
+    (ap (λ (n : ℕ). field "refused " n ++ newline) (word .before .refusal-number .ensures)))
+
+pub refused-spec : {M : Type 1} → statement M
+refused-spec =
+    tie.close
+    (tie.spec
+    slice-aggregate-put-field
+    refusal-number-requires
+    put-field-requires
+    put-byte-requires
+    same-length
+    returns)

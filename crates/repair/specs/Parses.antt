@@ -1,0 +1,230 @@
+-- The parser's answer: refusals 5 to 10 before the run, the run, and what the buffers then hold.
+use Prim.Native.Nat.{ℕ, zero, suc, _+_, _-_, _*_, _≤_, _<_}
+use mathlib.Core.Path.{_≡_, refl, sym, ap, _∙_, subst}
+use mathlib.Core.Bool.{Bool, true, false}
+use mathlib.Core.List.{List, [], _∷_, _++_, append-assoc, append-nil}
+use mathlib.Core.Logic.{_⊎_, inl, inr, ⊎-elim}
+use mathlib.Core.Option.{Option, none, some}
+use native.Mathlib.Omega.{arith}
+use lib.ListN.{length, getD, take, drop, set, replicate, length-append, length-replicate, length-set}
+use lib.Seq.{length-take-le, take-suc-set, take-length}
+use Rattle.grammar.specs.Words.{END, terminalCount}
+use Rattle.grammar.specs.Grammar.{Meets, Verdict, grammarRefusals}
+use Rattle.grammar.specs.Moves.{Move, edits, editWords, ruleNumbers}
+use Rattle.grammar.specs.Buffers.{filled, cleared}
+use Rattle.grammar.specs.Run.{
+  RunOf,
+  LogFits,
+  ParseMeets,
+  parseRefusals,
+  Settled,
+  Counts,
+  countsOf,
+  answered,
+  editsLeft,
+  rulesLeft,
+  Parsed,
+}
+use Rattle.grammar.specs.Refusals.{Lowest, Outcome, given, refused}
+use Rattle.grammar.specs.declared.Refusal.{Refusal}
+use Rattle.grammar.specs.declared.Refusal.the-variants.{BadShape, Unreachable, NoString, TooCostly, SharedPredict, BadLog}
+use Rattle.stack.specs.Tests.{le-or-lt}
+use Rattle.repair.specs.Reached.{Stopped}
+use Rattle.repair.specs.Runs.{parsingOf, Ended, RanOf}
+use Rattle.repair.specs.declared.Parsing.{Parsing}
+use Rattle.repair.specs.declared.Parsing.the-variants as parsing
+
+-- ---- Refusal 10
+
+-- The answer of the log test.
+pub record LogTold (ws log : List ℕ) (r : Bool) : Type 0 where
+  pub yes : r ≡ true → LogFits ws log
+  pub no : r ≡ false → LogFits ws log → ⊥
+
+-- The first i tokens are in range.
+pub record LogSoFar (ws log : List ℕ) (i : ℕ) : Type 0 where
+  pub low : (k : ℕ) → k < i → 1 ≤ getD log k END
+  pub high : (k : ℕ) → k < i → getD log k END < terminalCount ws
+
+module _ {ws log : List ℕ} where
+  pub log-none : LogSoFar ws log 0
+  log-none = record { low = λ k l. absurd (omega arith); high = λ k l. absurd (omega arith) }
+
+  pub log-more : (i : ℕ) → (getD log i END ≡ END → ⊥) → getD log i END < terminalCount ws → LogSoFar ws log i → LogSoFar ws log (i + 1)
+  log-more i l h w =
+      record {
+        low = λ k m. at (λ t. 1 ≤ t) k m (not-end (getD log i END) l) (w .low k);
+        high = λ k m. at (λ t. t < terminalCount ws) k m h (w .high k);
+      }
+    where
+      not-end : (t : ℕ) → (t ≡ END → ⊥) → 1 ≤ t
+      not-end zero n = absurd (n refl)
+      not-end (suc t) n = omega arith
+
+      at : (P : ℕ → Type 0) (k : ℕ) → k < i + 1 → P (getD log i END) → (k < i → P (getD log k END)) → P (getD log k END)
+      at P k m here before =
+          ⊎-elim (λ j. let e : i ≡ k = omega arith in subst (λ n. P (getD log n END)) e here) (λ j. before j) (le-or-lt i k)
+
+  pub log-told : (i : ℕ) → length log ≤ 4096 → length log ≤ i → LogSoFar ws log i → LogTold ws log true
+  log-told i l m w =
+      record {
+        yes = λ e. record { count = l; low = λ k h. w .low k (omega arith); high = λ k h. w .high k (omega arith) };
+        no = λ e f. let z : _≡_ {A = ℕ} 0 1 = cc in omega arith;
+      }
+
+  pub log-denied : (LogFits ws log → ⊥) → LogTold ws log false
+  log-denied n = record { yes = λ e. let z : _≡_ {A = ℕ} 0 1 = cc in absurd (omega arith); no = λ e f. n f }
+
+-- ---- Before the run
+
+-- The run's answer where 5 to 10 do not apply; else the refusal.
+unfoldable pub SettledAs : List ℕ → List ℕ → ℕ → ℕ → List ℕ → List ℕ → Parsing → Type 0
+SettledAs ws log editRoom ruleRoom editBuffer ruleBuffer (parsing.Counts moves records listed) =
+    Lowest (ParseMeets ws log) parseRefusals none × Ended ws log editRoom ruleRoom moves records listed editBuffer ruleBuffer
+SettledAs ws log editRoom ruleRoom editBuffer ruleBuffer (parsing.Refused r) =
+    Settled (ParseMeets ws log) parseRefusals (RunOf ws log editRoom ruleRoom) (refused r)
+
+-- Each refusal of the grammar check is one of the parser's.
+fails-shape : {ws log : List ℕ} → (Meets ws BadShape → ⊥) → ParseMeets ws log BadShape → ⊥
+fails-shape n (ParseMeets.grammar m) = n m
+
+fails-reach : {ws log : List ℕ} → (Meets ws Unreachable → ⊥) → ParseMeets ws log Unreachable → ⊥
+fails-reach n (ParseMeets.grammar m) = n m
+
+fails-string : {ws log : List ℕ} → (Meets ws NoString → ⊥) → ParseMeets ws log NoString → ⊥
+fails-string n (ParseMeets.grammar m) = n m
+
+fails-cost : {ws log : List ℕ} → (Meets ws TooCostly → ⊥) → ParseMeets ws log TooCostly → ⊥
+fails-cost n (ParseMeets.grammar m) = n m
+
+fails-predict : {ws log : List ℕ} → (Meets ws SharedPredict → ⊥) → ParseMeets ws log SharedPredict → ⊥
+fails-predict n (ParseMeets.grammar m) = n m
+
+no-log : {ws : List ℕ} → Meets ws BadLog → ⊥
+no-log m = elim m [ ]
+
+fails-log : {ws log : List ℕ} → (LogFits ws log → ⊥) → ParseMeets ws log BadLog → ⊥
+fails-log n (ParseMeets.grammar m) = no-log m
+fails-log n (ParseMeets.fits f) = n f
+
+-- The lowest of 5 to 9 is the lowest of 5 to 10.
+refused-check : {ws log : List ℕ} {r : Refusal} → Verdict ws (some r) → Lowest (ParseMeets ws log) parseRefusals (some r)
+refused-check (Lowest.applies n) = Lowest.applies (fails-shape n)
+refused-check (Lowest.passes a (Lowest.applies n)) = Lowest.passes (ParseMeets.grammar a) (Lowest.applies (fails-reach n))
+refused-check (Lowest.passes a (Lowest.passes b (Lowest.applies n))) =
+    Lowest.passes (ParseMeets.grammar a) (Lowest.passes (ParseMeets.grammar b) (Lowest.applies (fails-string n)))
+refused-check (Lowest.passes a (Lowest.passes b (Lowest.passes c (Lowest.applies n)))) =
+    Lowest.passes (ParseMeets.grammar a)
+    (Lowest.passes (ParseMeets.grammar b) (Lowest.passes (ParseMeets.grammar c) (Lowest.applies (fails-cost n))))
+refused-check (Lowest.passes a (Lowest.passes b (Lowest.passes c (Lowest.passes d (Lowest.applies n))))) =
+    Lowest.passes (ParseMeets.grammar a)
+    (Lowest.passes (ParseMeets.grammar b)
+    (Lowest.passes (ParseMeets.grammar c) (Lowest.passes (ParseMeets.grammar d) (Lowest.applies (fails-predict n)))))
+
+-- Behind the grammar check comes the log.
+behind-check : {ws log : List ℕ} {o : Option Refusal} → Verdict ws none → Lowest (ParseMeets ws log) (BadLog ∷ []) o
+    → Lowest (ParseMeets ws log) parseRefusals o
+behind-check (Lowest.passes a (Lowest.passes b (Lowest.passes c (Lowest.passes d (Lowest.passes e Lowest.all-met))))) l =
+    Lowest.passes (ParseMeets.grammar a)
+    (Lowest.passes (ParseMeets.grammar b)
+    (Lowest.passes (ParseMeets.grammar c) (Lowest.passes (ParseMeets.grammar d) (Lowest.passes (ParseMeets.grammar e) l))))
+
+pub settled-check : {ws : List ℕ} (log : List ℕ) (editRoom ruleRoom : ℕ) (editBuffer ruleBuffer : List ℕ) {r : Refusal}
+    → Verdict ws (some r) → SettledAs ws log editRoom ruleRoom editBuffer ruleBuffer (parsing.Refused r)
+unfolding SettledAs
+settled-check log editRoom ruleRoom editBuffer ruleBuffer v = Settled.before (refused-check v)
+
+pub settled-log : {ws log : List ℕ} (editRoom ruleRoom : ℕ) (editBuffer ruleBuffer : List ℕ) → Verdict ws none → (LogFits ws log → ⊥)
+    → SettledAs ws log editRoom ruleRoom editBuffer ruleBuffer (parsing.Refused BadLog)
+unfolding SettledAs
+settled-log editRoom ruleRoom editBuffer ruleBuffer v n = Settled.before (behind-check v (Lowest.applies (fails-log n)))
+
+pub settled-run : {ws log : List ℕ} (editRoom ruleRoom : ℕ) (editBuffer ruleBuffer : List ℕ) (r : Parsing) → Verdict ws none → LogFits ws log
+    → RanOf ws log editRoom ruleRoom editBuffer ruleBuffer r → SettledAs ws log editRoom ruleRoom editBuffer ruleBuffer r
+unfolding SettledAs RanOf
+settled-run editRoom ruleRoom editBuffer ruleBuffer (parsing.Counts m k l) v f x =
+    (behind-check v (Lowest.passes (ParseMeets.fits f) Lowest.all-met), x)
+settled-run editRoom ruleRoom editBuffer ruleBuffer (parsing.Refused r) v f x =
+    Settled.within (behind-check v (Lowest.passes (ParseMeets.fits f) Lowest.all-met)) (x .1)
+
+-- ---- The buffers
+
+-- Words from `from` up to i are zero, and those in front stand.
+pub record Clearing (before : List ℕ) (from i : ℕ) (after : List ℕ) : Type 0 where
+  pub size : length after ≡ length before
+  pub front : take i after ≡ take from before ++ replicate (i - from) 0
+
+pub clearing-none : (before : List ℕ) (from : ℕ) → Clearing before from from before
+clearing-none before from =
+    let e : from - from ≡ 0 = omega arith in
+    record { size = refl; front = sym (ap (λ n. take from before ++ replicate n 0) e ∙ append-nil (take from before)) }
+
+replicate-more : (z n : ℕ) → replicate n z ++ (z ∷ []) ≡ replicate (suc n) z
+replicate-more z zero = refl
+replicate-more z (suc n) = ap (λ l. z ∷ l) (replicate-more z n)
+
+pub clearing-more : (before : List ℕ) (from i : ℕ) (after : List ℕ) → from ≤ i → i < length before → Clearing before from i after
+    → Clearing before from (i + 1) (set after i 0)
+clearing-more before from i after l h w =
+    let e : i + 1 ≡ suc i = omega arith in
+    let n : suc (i - from) ≡ i + 1 - from = omega arith in
+    record {
+      size = length-set after i 0 ∙ w .size;
+      front =
+          ap (λ k. take k (set after i 0)) e
+          ∙ take-suc-set after i 0 (omega (arith, w .size))
+          ∙ ap (λ t. t ++ (0 ∷ [])) (w .front)
+          ∙ append-assoc (take from before) (replicate (i - from) 0) (0 ∷ [])
+          ∙ ap (λ t. take from before ++ t) (replicate-more 0 (i - from) ∙ ap (λ k. replicate k 0) n);
+    }
+
+-- "All words after the last one written are zero."
+pub clearing-all : (before : List ℕ) (from i : ℕ) (after : List ℕ) → from ≤ length before → i ≡ length before → Clearing before from i after
+    → after ≡ filled (length before) (take from before)
+unfolding filled
+clearing-all before from i after l e w =
+    let n : length (take from before) ≡ from = length-take-le from before l in
+    let whole : take i after ≡ after = ap (λ k. take k after) (e ∙ sym (w .size)) ∙ take-length after in
+    sym whole
+    ∙ w .front
+    ∙ ap (λ k. take from before ++ replicate (k - from) 0) e
+    ∙ ap (λ k. take from before ++ replicate (length before - k) 0) (sym n)
+
+-- ---- The parser's contract
+
+filled-none : (room : ℕ) (b : List ℕ) → filled room (take 0 b) ≡ cleared room
+unfolding filled cleared
+filled-none room b = let e : room - 0 ≡ room = omega arith in ap (λ n. replicate n 0) e
+
+pub parsed-counts : {ws log : List ℕ} (editRoom ruleRoom moves records listed : ℕ) (editBuffer ruleBuffer editsAfter rulesAfter : List ℕ)
+    → SettledAs ws log editRoom ruleRoom editBuffer ruleBuffer (parsing.Counts moves records listed)
+    → editsAfter ≡ filled editRoom (take (3 * records) editBuffer) → rulesAfter ≡ filled ruleRoom (take listed ruleBuffer)
+    → Parsed ws log editRoom ruleRoom (parsingOf (parsing.Counts moves records listed)) editsAfter rulesAfter
+unfolding SettledAs parsingOf answered editsLeft rulesLeft
+parsed-counts editRoom ruleRoom moves records listed editBuffer ruleBuffer editsAfter rulesAfter s e r =
+    let x = s .1 in
+    record {
+      outcome = given (x .made);
+      settled = Settled.whole (s .0) (x .run);
+      answers = same (x .counted) (x .recorded) (x .numbered);
+      leaves-edits = e ∙ ap (filled editRoom) (x .edit-front);
+      leaves-rules = r ∙ ap (filled ruleRoom) (x .rule-front);
+    }
+  where
+    same : {a b c a′ b′ c′ : ℕ} → a ≡ a′ → b ≡ b′ → c ≡ c′
+        → _≡_ {A = Outcome Counts} (given (record { moves = a; records = b; listed = c })) (given (record { moves = a′; records = b′; listed = c′ }))
+    same p q r = cc
+
+pub parsed-refused : {ws log : List ℕ} (editRoom ruleRoom : ℕ) (r : Refusal) (editBuffer ruleBuffer editsAfter rulesAfter : List ℕ)
+    → SettledAs ws log editRoom ruleRoom editBuffer ruleBuffer (parsing.Refused r)
+    → editsAfter ≡ filled editRoom (take 0 editBuffer) → rulesAfter ≡ filled ruleRoom (take 0 ruleBuffer)
+    → Parsed ws log editRoom ruleRoom (parsingOf (parsing.Refused r)) editsAfter rulesAfter
+unfolding SettledAs parsingOf answered editsLeft rulesLeft
+parsed-refused editRoom ruleRoom r editBuffer ruleBuffer editsAfter rulesAfter s e f =
+    record {
+      outcome = refused r;
+      settled = s;
+      answers = refl;
+      leaves-edits = e ∙ filled-none editRoom editBuffer;
+      leaves-rules = f ∙ filled-none ruleRoom ruleBuffer;
+    }

@@ -1,0 +1,199 @@
+// The repairing parser: document 01, "Moves", and refusals 11 and 12. The stack, the edits and the rules are slices beside a
+// state of numbers; the tables are those of the grammar check.
+ghost use mathlib.Core.Path.{_≡_};
+ghost use Prim.Native.Nat.{_+_, _-_, _*_, _≤_, _<_};
+ghost use lib.ListN.{length, take};
+ghost use Rattle.repair.specs.Lookup.{CanLookUp, RuleFor};
+ghost use Rattle.repair.specs.Expanding.{CanExpand, ExpandedOf};
+ghost use Rattle.repair.specs.Turns.{CanTurn, TurnOf};
+ghost use Rattle.repair.specs.Runs.{CanRun, RanOf};
+ghost use Rattle.repair.specs.Parses.{LogTold};
+ghost use Rattle.grammar.specs.Words.{Shaped};
+ghost use Rattle.grammar.specs.Buffers.{filled};
+use grammar::Refusal;
+use search::Corrected;
+use stack::Parser;
+use stack::Way;
+
+// The answer: moves, edit records and rule numbers listed, or a refusal. `parsingOf` of specs/Runs.antt says what each stands for.
+pub enum Parsing {
+    Counts(usize, usize, usize),
+    Refused(Refusal),
+}
+
+// The state behind a turn of the run, or the refusal that it meets.
+enum Turned {
+    On(Parser),
+    Refused(Refusal),
+}
+
+// Where a block has its rule's length, and where the link to the last rule of the same left side before it.
+const SIZE: usize = 8;
+
+const LINK: usize = 9;
+
+// "Its one rule whose right side has t in FIRST": the rules of one left side are a list of links, each a rule's number plus 1.
+// The contract alone reads the words.
+fn rule_for(
+    words: &[u16],
+    rule_firsts: &[u64],
+    heads: &[u16],
+    blocks: &[u16],
+    top: u16,
+    t: u16,
+) -> usize
+    requires { ⌜ CanLookUp (now words) (now «rule_firsts») (now heads) (now blocks) top t ⌝ }
+    ensures { λ r. ⌜ RuleFor (now (words .entry)) top t r ⌝ }
+{
+    let mut link = stack::wide(heads[stack::wide(top - 64)]);
+    while 0 < link {
+        let p = link - 1;
+        if stack::has(rule_firsts[p], t) {
+            return p;
+        }
+        link = stack::wide(blocks[16 * p + LINK]);
+    }
+    0
+}
+
+// "Expand: one pop, the right side is pushed, the rule number is listed"; refusal 11 is tested first, then 12.
+fn expand(
+    words: &[u16],
+    rule_firsts: &[u64],
+    heads: &[u16],
+    blocks: &[u16],
+    stack: &mut [u16],
+    rules: &mut [u16],
+    d: Parser,
+    t: u16,
+) -> Turned
+    requires { ⌜ CanExpand (now words) (now «rule_firsts») (now heads) (now blocks) (now stack) (now rules) d t ⌝ }
+    ensures { λ r. ⌜ ExpandedOf (now (words .entry)) (now (stack .entry)) (now (rules .entry)) d t (now (stack .exit)) (now (rules .exit)) r ⌝ }
+{
+    let at = d.height - 1;
+    let rule = rule_for(words, rule_firsts, heads, blocks, stack[at], t);
+    let size = stack::wide(blocks[16 * rule + SIZE]);
+    if 256 < at + size {
+        return Turned::Refused(Refusal::StackFull);
+    }
+    let listed = d.listed;
+    if rules.len() <= listed {
+        return Turned::Refused(Refusal::NoRoom);
+    }
+    rules[listed] = rule as u16;
+    stack::push(blocks, 16 * rule, stack, at);
+    Turned::On(d.expanded(size))
+}
+
+// One turn: the drops for the current token and the match or the expand that they lead to, or a correction.
+fn turn(
+    words: &[u16],
+    log: &[u16],
+    null: u64,
+    firsts: &[u64],
+    rule_firsts: &[u64],
+    costs: &[u32],
+    heads: &[u16],
+    blocks: &[u16],
+    stack: &mut [u16],
+    edits: &mut [u16],
+    rules: &mut [u16],
+    p: Parser,
+) -> Turned
+    requires { ⌜ CanTurn (now words) (now log) null (now firsts) (now «rule_firsts») (now costs) (now heads) (now blocks) (now stack) (now edits) (now rules) p ⌝ }
+    ensures { λ r. ⌜ TurnOf (now (words .entry)) (now (log .entry)) (length (now (edits .entry))) (length (now (rules .entry))) (p .moves) (now (stack .exit)) (now (edits .exit)) (now (rules .exit)) r ⌝ }
+{
+    let t = search::token_at(log, p.place);
+    let way = stack::descend(null, firsts, stack, p, t);
+    match way {
+        Way::Fits(d) => Turned::On(d.matched()),
+        Way::Grows(d) => expand(words, rule_firsts, heads, blocks, stack, rules, d, t),
+        Way::Stuck => {
+            let corrected = search::correct(words, log, firsts, costs, stack, edits, p);
+            match corrected {
+                Corrected::On(q) => Turned::On(q),
+                Corrected::Full => Turned::Refused(Refusal::NoRoom),
+            }
+        }
+    }
+}
+
+// The run of a log: "the run ends when END is matched". The stack begins as START over END.
+pub fn run(
+    words: &[u16],
+    log: &[u16],
+    null: u64,
+    firsts: &[u64],
+    rule_firsts: &[u64],
+    costs: &[u32],
+    heads: &[u16],
+    blocks: &[u16],
+    stack: &mut [u16],
+    edits: &mut [u16],
+    rules: &mut [u16],
+) -> Parsing
+    requires { ⌜ CanRun (now words) (now log) null (now firsts) (now «rule_firsts») (now costs) (now heads) (now blocks) (now stack) ⌝ }
+    ensures { λ r. ⌜ RanOf (now (words .entry)) (now (log .entry)) (length (now (edits .entry))) (length (now (rules .entry))) (now (edits .exit)) (now (rules .exit)) r ⌝ }
+{
+    stack[0] = 0;
+    stack[1] = 64;
+    let mut p = Parser::new();
+    while 0 < p.height {
+        let turned = turn(
+            words,
+            log,
+            null,
+            firsts,
+            rule_firsts,
+            costs,
+            heads,
+            blocks,
+            stack,
+            edits,
+            rules,
+            p,
+        );
+        match turned {
+            Turned::On(q) => p = q,
+            Turned::Refused(r) => return Parsing::Refused(r),
+        }
+    }
+    Parsing::Counts(p.moves, p.records, p.listed)
+}
+
+// ---- Before the run, and behind it
+
+// Refusal 10: "over 4,096 tokens, a token outside 1..T-1".
+fn log_fits(words: &[u16], log: &[u16]) -> bool
+    requires { ⌜ Shaped (now words) ⌝ }
+    ensures { λ r. ⌜ LogTold (now (words .entry)) (now (log .entry)) r ⌝ }
+{
+    if 4096 < log.len() {
+        return false;
+    }
+    let terminals = words[0];
+    let mut i = 0;
+    while i < log.len() {
+        let t = log[i];
+        if t == 0 {
+            return false;
+        }
+        if terminals <= t {
+            return false;
+        }
+        i += 1;
+    }
+    true
+}
+
+// Makes every word from a place on zero: each word of a lent buffer is cleared once or written.
+fn clear(buffer: &mut [u16], from: usize)
+    requires { ⌜ from ≤ length (now buffer) ⌝ }
+    ensures { λ _. ⌜ now (buffer .exit) ≡ filled (length (now (buffer .entry))) (take from (now (buffer .entry))) ⌝ }
+{
+    let mut i = from;
+    while i < buffer.len() {
+        buffer[i] = 0;
+        i += 1;
+    }
+}

@@ -1,0 +1,4 @@
+pub mod Pile
+pub mod Tests
+pub mod Ways
+pub mod Push
