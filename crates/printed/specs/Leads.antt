@@ -5,10 +5,10 @@ use native.Mathlib.Omega.{arith}
 use mathlib.Core.Logic.{dite}
 use mathlib.Core.Path.{_≡_, refl, sym, ap, _∙_, subst}
 use mathlib.Core.List.{List, [], _∷_}
-use lib.ListN.{length, take}
+use lib.ListN.{length, take, length-append}
 use lib.Seq.{take-at, take-all, length-take-le}
 use Rattle.grammar.specs.Buffers.{filled}
-use Rattle.grammar.specs.File.{FileRead}
+use Rattle.grammar.specs.File.{FileRead, fileWords}
 use Rattle.grammar.specs.Moves.{Move, Edit, edits, editWords, ruleNumbers}
 use Rattle.grammar.specs.Run.{ParseMeets, parseRefusals, RunOf, Settled, Counts, countsOf, Parsed, editsLeft, answered}
 use Rattle.grammar.specs.Pace.{PaceMeets, Reports, Reported}
@@ -113,6 +113,27 @@ prints-listing {input} {x = x} {counts = counts} {report = report} c f q p =
     let buffer : x ≡ filled 24576 (editWords (edits (run .moves))) = p .leaves-edits ∙ ap (editsLeft 24576) ends in
     subst (λ (bytes : List ℕ). Printed input bytes) (same-lines (length (tokensOf input)) (run .moves) report counts x counted buffer)
     (Printed.listed c f q (run .ends))
+
+-- The words that the reader counts, and those of the records that the parse counts, stand in their buffers.
+filled-within : (room : ℕ) (ws : List ℕ) → length ws ≤ length (filled room ws)
+unfolding filled
+filled-within room ws = simp length-append (omega arith)
+
+pub read-part : {bytes words : List ℕ} {room n : ℕ} {o : Outcome ℕ} → FileRead bytes room o words → o ≡ given n → n ≤ length words
+read-part {bytes} {room = room} {n = n} (FileRead.read l) e =
+    let count : length (fileWords bytes) ≡ n = given-same e in
+    omega (arith, filled-within room (fileWords bytes))
+read-part (FileRead.refuse l) e = absurd (given-refused e refl)
+
+pub parsed-part : {ws log x u : List ℕ} {editRoom ruleRoom : ℕ} {counts : Counts}
+    → Parsed ws log editRoom ruleRoom (given counts) x u → 3 * counts .records ≤ length x
+unfolding editsLeft
+parsed-part {x = x} {editRoom = editRoom} {counts = counts} p =
+    let parse = parsed-moves (p .outcome) (p .answers) in
+    let es : List Edit = edits (parse .moves) in
+    let count : counts .records ≡ length es = ap (λ (c : Counts). c .records) (parsed-counts (p .answers) (parse .ends)) in
+    let buffer : x ≡ filled editRoom (editWords es) = p .leaves-edits ∙ ap (editsLeft editRoom) (parse .ends) in
+    omega (arith, filled-within editRoom (editWords es), words-length es, ap length buffer)
 
 -- ---- What a program shows that keeps `room` tokens and ticks, 4,097 or more
 

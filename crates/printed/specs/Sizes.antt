@@ -98,22 +98,25 @@ lines-length (k ∷ p ∷ x ∷ ws) small =
     let rest = lines-length ws (λ i. small (suc (suc (suc i)))) in
     simp length-append (omega arith)
 
-pace-length : (count sum : ℕ) (pace : Pace) → count < 2 ^ 64 → sum < 2 ^ 64 → length (paceLine count sum pace) ≤ 57
+pub pace-length : (count sum : ℕ) (pace : Pace) → count < 2 ^ 64 → sum < 2 ^ 64 → length (paceLine count sum pace) ≤ 57
 unfolding paceLine ascii
 pace-length count sum Idle a b = omega arith
 pace-length count sum (Mean mean) a b =
     simp (length-append, field-length) (omega (arith, decimal-long count a, decimal-long sum b))
 
+pub pace-idle : (count sum : ℕ) {pace : Pace} → pace ≡ Idle → length (paceLine count sum pace) ≤ 57
+unfolding paceLine ascii
+pace-idle count sum e = omega (arith, ap (λ (p : Pace). length (paceLine count sum p)) e)
+
 -- ---- The listings
 
 -- The listing of a run.
 pub listing-length : (n moves : ℕ) (ws : List ℕ) (rules : ℕ) (report : Report) → n < 2 ^ 64 → moves < 2 ^ 64
-    → length (recordsOf ws) < 2 ^ 64 → rules < 2 ^ 64 → report .count < 2 ^ 64 → report .sum < 2 ^ 64
+    → length (recordsOf ws) < 2 ^ 64 → rules < 2 ^ 64 → length (paceLine (report .count) (report .sum) (report .pace)) ≤ 57
     → ((i : ℕ) → getD ws i 0 < 65536) → length (listing n moves (recordsOf ws) rules report) ≤ 19 * (length ws / 3) + 169
 unfolding listing
-listing-length n moves ws rules report a b c d e f small =
+listing-length n moves ws rules report a b c d pace small =
     let ok = ok-length n moves (length (recordsOf ws)) rules a b c d in
-    let pace = pace-length (report .count) (report .sum) (report .pace) e f in
     simp length-append (omega (arith, lines-length ws small))
 
 number-small : (r : Refusal) → numberOf r < 100
@@ -154,3 +157,11 @@ pub wrote-whole : {old new buffer : List ℕ} {count : ℕ} → Wrote old new bu
 wrote-whole {old} {new} {buffer} {count} w fits =
     let all : take (length old) new ≡ new = take-all (length old) new fits in
     (w .number ∙ ap length all, wrote-front w ∙ all)
+
+-- As many as were written stand in the buffer.
+pub wrote-part : {old new buffer : List ℕ} {count : ℕ} → Wrote old new buffer count
+    → (count ≤ length buffer) × (count ≡ length (take count buffer))
+wrote-part {old} {new} {buffer} {count} w =
+    let size : length buffer ≡ length (take (length old) new) + length (drop count old) =
+    ap length (w .holds) ∙ length-append (take (length old) new) (drop count old) in
+    (omega (arith, w .number), w .number ∙ ap length (sym (wrote-front w)))

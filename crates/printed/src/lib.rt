@@ -202,7 +202,7 @@ pub fn refused(refusal: Refusal, out: &mut [u8]) -> usize
 }
 
 // Writes the listing of a run into the buffer, as much as fits, and gives how many bytes that are. `edits` are the words of
-// its edit records.
+// its edit records; of 24,576 words the listing has at most 155,817 bytes.
 pub fn listed(
     tokens: usize,
     moves: usize,
@@ -212,6 +212,7 @@ pub fn listed(
     out: &mut [u8],
 ) -> usize
     ensures { λ r. ⌜ Wrote (now (out .entry)) (listing tokens moves (recordsOf (now (edits .entry))) rules report) (now (out .exit)) r ⌝ }
+    ensures { λ _. ⌜ length (listing tokens moves (recordsOf (now (edits .entry))) rules report) ≤ 19 * (length (now (edits .entry)) / 3) + 169 ⌝ }
 {
     let at = put_ok(out, tokens, moves, edits.len() / 3, rules);
     let next = put_edits(out, at, edits);
@@ -257,6 +258,7 @@ fn put_edit(out: &mut [u8], at: usize, kind: u16, place: u16, symbol: u16) -> us
 fn put_pace(out: &mut [u8], at: usize, report: Report) -> usize
     requires { ⌜ at ≤ length (now out) ⌝ }
     ensures { λ r. ⌜ Appends (now (out .entry)) at (paceLine (report .count) (report .sum) (report .pace)) (now (out .exit)) r ⌝ }
+    ensures { λ _. ⌜ length (paceLine (report .count) (report .sum) (report .pace)) ≤ 57 ⌝ }
 {
     let pace = report.pace;
     match pace {

@@ -8,7 +8,7 @@ use mathlib.Core.Option.{Option, none, some}
 use native.Mathlib.Omega.{arith}
 use lib.ListN.{length, getD, take, drop, set, replicate, length-append, length-replicate, length-set}
 use lib.Seq.{length-take-le, take-suc-set, take-length}
-use Rattle.grammar.specs.Words.{END, terminalCount}
+use Rattle.grammar.specs.Words.{END, Shaped, terminalCount}
 use Rattle.grammar.specs.Grammar.{Meets, Verdict, grammarRefusals}
 use Rattle.grammar.specs.Moves.{Move, edits, editWords, ruleNumbers}
 use Rattle.grammar.specs.Buffers.{filled, cleared}
@@ -28,18 +28,19 @@ use Rattle.grammar.specs.Run.{
 use Rattle.grammar.specs.Refusals.{Lowest, Outcome, given, refused}
 use Rattle.grammar.specs.declared.Refusal.{Refusal}
 use Rattle.grammar.specs.declared.Refusal.the-variants.{BadShape, Unreachable, NoString, TooCostly, SharedPredict, BadLog}
+use Rattle.grammar.specs.theory.Good.{accepted}
+use Rattle.sets.specs.Telling.{Tells, told}
 use Rattle.stack.specs.Tests.{le-or-lt}
+use Rattle.verdict.specs.Tables.{Tables}
+use Rattle.verdict.specs.Answer.{Tabled}
+use Rattle.verdict.specs.declared.Judgement.{Judgement}
+use Rattle.verdict.specs.declared.Judgement.the-variants as judged
 use Rattle.repair.specs.Reached.{Stopped}
-use Rattle.repair.specs.Runs.{parsingOf, Ended, RanOf}
+use Rattle.repair.specs.Runs.{parsingOf, Ended, CanRun, RanOf}
 use Rattle.repair.specs.declared.Parsing.{Parsing}
 use Rattle.repair.specs.declared.Parsing.the-variants as parsing
 
 -- ---- Refusal 10
-
--- The answer of the log test.
-pub record LogTold (ws log : List ℕ) (r : Bool) : Type 0 where
-  pub yes : r ≡ true → LogFits ws log
-  pub no : r ≡ false → LogFits ws log → ⊥
 
 -- The first i tokens are in range.
 pub record LogSoFar (ws log : List ℕ) (i : ℕ) : Type 0 where
@@ -65,15 +66,8 @@ module _ {ws log : List ℕ} where
       at P k m here before =
           ⊎-elim (λ j. let e : i ≡ k = omega arith in subst (λ n. P (getD log n END)) e here) (λ j. before j) (le-or-lt i k)
 
-  pub log-told : (i : ℕ) → length log ≤ 4096 → length log ≤ i → LogSoFar ws log i → LogTold ws log true
-  log-told i l m w =
-      record {
-        yes = λ e. record { count = l; low = λ k h. w .low k (omega arith); high = λ k h. w .high k (omega arith) };
-        no = λ e f. let z : _≡_ {A = ℕ} 0 1 = cc in omega arith;
-      }
-
-  pub log-denied : (LogFits ws log → ⊥) → LogTold ws log false
-  log-denied n = record { yes = λ e. let z : _≡_ {A = ℕ} 0 1 = cc in absurd (omega arith); no = λ e f. n f }
+  pub log-told : (i : ℕ) → length log ≤ 4096 → length log ≤ i → LogSoFar ws log i → Tells (LogFits ws log) true
+  log-told i l m w = told (record { count = l; low = λ k h. w .low k (omega arith); high = λ k h. w .high k (omega arith) })
 
 -- ---- Before the run
 
@@ -228,3 +222,71 @@ parsed-refused editRoom ruleRoom r editBuffer ruleBuffer editsAfter rulesAfter s
       leaves-edits = e ∙ filled-none editRoom editBuffer;
       leaves-rules = f ∙ filled-none ruleRoom ruleBuffer;
     }
+
+-- ---- The code's steps
+
+tabled-passed : {ws firsts ruleFirsts costs heads blocks : List ℕ} {j : Judgement} {null : ℕ} → Tabled ws firsts ruleFirsts costs heads blocks j
+    → j ≡ judged.Passed null → Verdict ws none × Tables ws null firsts ruleFirsts costs heads blocks
+tabled-passed {ws} {firsts} {ruleFirsts} {costs} {heads} {blocks} {null = null} (Tabled.passed {null = n} v t) e =
+    let same : n ≡ null = cc in (v, subst (λ m. Tables ws m firsts ruleFirsts costs heads blocks) same t)
+tabled-passed (Tabled.refused v) e = absurd (let z : _≡_ {A = ℕ} 0 1 = cc in omega arith)
+
+tabled-refused : {ws firsts ruleFirsts costs heads blocks : List ℕ} {j : Judgement} {r : Refusal} → Tabled ws firsts ruleFirsts costs heads blocks j
+    → j ≡ judged.Refused r → Verdict ws (some r)
+tabled-refused (Tabled.passed v t) e = absurd (let z : _≡_ {A = ℕ} 0 1 = cc in omega arith)
+tabled-refused {ws} {r = r} (Tabled.refused {r = q} v) e = let same : q ≡ r = cc in subst (λ m. Verdict ws (some m)) same v
+
+module _ {ws firsts ruleFirsts costs heads blocks : List ℕ} {j : Judgement} (t : Tabled ws firsts ruleFirsts costs heads blocks j) where
+  pub check-refuses : (log : List ℕ) (editRoom ruleRoom : ℕ) (editBuffer ruleBuffer : List ℕ) {r : Refusal} → j ≡ judged.Refused r
+      → SettledAs ws log editRoom ruleRoom editBuffer ruleBuffer (parsing.Refused r)
+  check-refuses log editRoom ruleRoom editBuffer ruleBuffer e =
+      settled-check log editRoom ruleRoom editBuffer ruleBuffer (tabled-refused t e)
+
+  module _ {null : ℕ} (passed : j ≡ judged.Passed null) where
+    pub log-can : Shaped ws
+    log-can = accepted (tabled-passed t passed .0) .shaped
+
+    module _ {log : List ℕ} {answer : Bool} (test : Tells (LogFits ws log) answer) where
+      pub log-refuses : (editRoom ruleRoom : ℕ) (editBuffer ruleBuffer : List ℕ) → answer ≡ false
+          → SettledAs ws log editRoom ruleRoom editBuffer ruleBuffer (parsing.Refused BadLog)
+      log-refuses editRoom ruleRoom editBuffer ruleBuffer e =
+          settled-log editRoom ruleRoom editBuffer ruleBuffer (tabled-passed t passed .0) (test .no e)
+
+      pub run-can : (stack : List ℕ) → answer ≡ true → 264 ≤ length stack → CanRun ws log null firsts ruleFirsts costs heads blocks stack
+      run-can stack e l =
+          let h = tabled-passed t passed in
+          record { setting = record { passes = h .0; fits = test .yes e; tables = h .1 }; cells = l }
+
+      pub run-settles : (editRoom ruleRoom : ℕ) (editBuffer ruleBuffer : List ℕ) (r : Parsing) → answer ≡ true
+          → RanOf ws log editRoom ruleRoom editBuffer ruleBuffer r → SettledAs ws log editRoom ruleRoom editBuffer ruleBuffer r
+      run-settles editRoom ruleRoom editBuffer ruleBuffer r e x =
+          settled-run editRoom ruleRoom editBuffer ruleBuffer r (tabled-passed t passed .0) (test .yes e) x
+
+module _ (ws log edits₀ rules₀ edits′ rules′ : List ℕ) {answer : Parsing}
+    (s : SettledAs ws log (length edits₀) (length rules₀) edits′ rules′ answer) where
+  -- What was listed fits.
+  pub settled-fits : {moves records listed : ℕ} → answer ≡ parsing.Counts moves records listed
+      → (3 * records ≤ length edits₀) × (listed ≤ length rules₀)
+  unfolding SettledAs
+  settled-fits e =
+      let x = subst (λ r. SettledAs ws log (length edits₀) (length rules₀) edits′ rules′ r) e s in (x .1 .edits-fit, x .1 .rules-fit)
+
+  pub parses-counts : {moves records listed : ℕ} (editsAfter rulesAfter : List ℕ) → answer ≡ parsing.Counts moves records listed
+      → length edits′ ≡ length edits₀ → length rules′ ≡ length rules₀ → editsAfter ≡ filled (length edits′) (take (3 * records) edits′)
+      → rulesAfter ≡ filled (length rules′) (take listed rules′)
+      → Parsed ws log (length edits₀) (length rules₀) (parsingOf (parsing.Counts moves records listed)) editsAfter rulesAfter
+  parses-counts {moves} {records} {listed} editsAfter rulesAfter e m n f g =
+      parsed-counts (length edits₀) (length rules₀) moves records listed edits′ rules′ editsAfter rulesAfter
+      (subst (λ r. SettledAs ws log (length edits₀) (length rules₀) edits′ rules′ r) e s)
+      (f ∙ ap (λ k. filled k (take (3 * records) edits′)) m)
+      (g ∙ ap (λ k. filled k (take listed rules′)) n)
+
+  pub parses-refused : {r : Refusal} (editsAfter rulesAfter : List ℕ) → answer ≡ parsing.Refused r
+      → length edits′ ≡ length edits₀ → length rules′ ≡ length rules₀ → editsAfter ≡ filled (length edits′) (take 0 edits′)
+      → rulesAfter ≡ filled (length rules′) (take 0 rules′)
+      → Parsed ws log (length edits₀) (length rules₀) (parsingOf (parsing.Refused r)) editsAfter rulesAfter
+  parses-refused {r} editsAfter rulesAfter e m n f g =
+      parsed-refused (length edits₀) (length rules₀) r edits′ rules′ editsAfter rulesAfter
+      (subst (λ x. SettledAs ws log (length edits₀) (length rules₀) edits′ rules′ x) e s)
+      (f ∙ ap (λ k. filled k (take 0 edits′)) m)
+      (g ∙ ap (λ k. filled k (take 0 rules′)) n)

@@ -6,14 +6,17 @@ ghost use lib.ListN.{length, take};
 ghost use Rattle.repair.specs.Lookup.{CanLookUp, RuleFor};
 ghost use Rattle.repair.specs.Expanding.{CanExpand, ExpandedOf};
 ghost use Rattle.repair.specs.Turns.{CanTurn, TurnOf};
-ghost use Rattle.repair.specs.Runs.{CanRun, RanOf};
-ghost use Rattle.repair.specs.Parses.{LogTold};
+ghost use Rattle.repair.specs.Runs.{CanRun, RanOf, parsingOf};
+ghost use Rattle.repair.specs.Parses.{SettledAs};
+ghost use Rattle.sets.specs.Telling.{Tells};
+ghost use Rattle.grammar.specs.Run.{LogFits, Parsed};
 ghost use Rattle.grammar.specs.Words.{Shaped};
 ghost use Rattle.grammar.specs.Buffers.{filled};
 use grammar::Refusal;
 use search::Corrected;
 use stack::Parser;
 use stack::Way;
+use verdict::Judgement;
 
 // The answer: moves, edit records and rule numbers listed, or a refusal. `parsingOf` of specs/Runs.antt says what each stands for.
 pub enum Parsing {
@@ -25,6 +28,67 @@ pub enum Parsing {
 enum Turned {
     On(Parser),
     Refused(Refusal),
+}
+
+// Runs the log by the grammar words, which are checked first, and leaves its edit records and rule numbers in the two lent
+// buffers; or gives the lowest refusal of 5 to 10 that applies, or the one of 11 and 12 that the run meets.
+pub fn parse(words: &[u16], log: &[u16], edits: &mut [u16], rules: &mut [u16]) -> Parsing
+    ensures { λ r. ⌜ Parsed (now (words .entry)) (now (log .entry)) (length (now (edits .entry))) (length (now (rules .entry))) (parsingOf r) (now (edits .exit)) (now (rules .exit)) ⌝ }
+{
+    let answer = settle(words, log, edits, rules);
+    match answer {
+        Parsing::Counts(moves, records, listed) => {
+            clear(edits, 3 * records);
+            clear(rules, listed);
+            Parsing::Counts(moves, records, listed)
+        }
+        Parsing::Refused(r) => {
+            clear(edits, 0);
+            clear(rules, 0);
+            Parsing::Refused(r)
+        }
+    }
+}
+
+// The check and its tables, the log's test and the run. The buffers are not cleared yet.
+fn settle(words: &[u16], log: &[u16], edits: &mut [u16], rules: &mut [u16]) -> Parsing
+    ensures { λ r. ⌜ SettledAs (now (words .entry)) (now (log .entry)) (length (now (edits .entry))) (length (now (rules .entry))) (now (edits .exit)) (now (rules .exit)) r ⌝ }
+{
+    let mut firsts = [0u64; 64];
+    let mut rule_firsts = [0u64; 256];
+    let mut costs = [0u32; 128];
+    let mut heads = [0u16; 64];
+    let mut blocks = [0u16; 4096];
+    let judgement = verdict::tables(
+        words,
+        &mut firsts,
+        &mut rule_firsts,
+        &mut costs,
+        &mut heads,
+        &mut blocks,
+    );
+    match judgement {
+        Judgement::Passed(null) => {
+            if log_fits(words, log) {} else {
+                return Parsing::Refused(Refusal::BadLog);
+            }
+            let mut stack = [0u16; 264];
+            run(
+                words,
+                log,
+                null,
+                &firsts,
+                &rule_firsts,
+                &costs,
+                &heads,
+                &blocks,
+                &mut stack,
+                edits,
+                rules,
+            )
+        }
+        Judgement::Refused(r) => Parsing::Refused(r),
+    }
 }
 
 // Where a block has its rule's length, and where the link to the last rule of the same left side before it.
@@ -48,7 +112,7 @@ fn rule_for(
     let mut link = stack::wide(heads[stack::wide(top - 64)]);
     while 0 < link {
         let p = link - 1;
-        if stack::has(rule_firsts[p], t) {
+        if sets::has(rule_firsts[p], t) {
             return p;
         }
         link = stack::wide(blocks[16 * p + LINK]);
@@ -166,7 +230,7 @@ pub fn run(
 // Refusal 10: "over 4,096 tokens, a token outside 1..T-1".
 fn log_fits(words: &[u16], log: &[u16]) -> bool
     requires { ⌜ Shaped (now words) ⌝ }
-    ensures { λ r. ⌜ LogTold (now (words .entry)) (now (log .entry)) r ⌝ }
+    ensures { λ r. ⌜ Tells (LogFits (now (words .entry)) (now (log .entry))) r ⌝ }
 {
     if 4096 < log.len() {
         return false;

@@ -4,7 +4,6 @@ ghost use mathlib.Core.Path.{_≡_};
 ghost use mathlib.Core.Bool.{Bool};
 ghost use Prim.Native.Nat.{_+_, _-_, _*_, _≤_, _<_, _^_};
 ghost use lib.ListN.{length, getD};
-ghost use Rattle.sets.specs.Bits.{member};
 ghost use Rattle.stack.specs.Tests.{beginsBy, emptyBy, pickBy};
 ghost use Rattle.stack.specs.Ways.{CanDescend, WayOf};
 ghost use Rattle.stack.specs.Push.{CanPush, Pushed};
@@ -90,14 +89,7 @@ impl Parser {
 
 // ---- What the tables say of a symbol
 
-// Number i is in the set.
-pub fn has(set: u64, i: u16) -> bool
-    requires { ⌜ i < 64 ⌝ }
-    ensures { λ r. ⌜ r ≡ member set i ⌝ }
-{
-    (set >> i) % 2 == 1
-}
-
+// A word, as an index.
 pub fn wide(x: u16) -> usize
     ensures { λ r. ⌜ r ≡ x ⌝ }
 {
@@ -113,7 +105,7 @@ pub fn begins(firsts: &[u64], symbol: u16, t: u16) -> bool
         symbol == t
     } else {
         let k = wide(symbol - 64);
-        has(firsts[k], t)
+        sets::has(firsts[k], t)
     }
 }
 
@@ -125,7 +117,7 @@ pub fn empty(null: u64, symbol: u16) -> bool
     if symbol < 64 {
         false
     } else {
-        has(null, symbol - 64)
+        sets::has(null, symbol - 64)
     }
 }
 

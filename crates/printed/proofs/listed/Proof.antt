@@ -1,6 +1,8 @@
 -- `printed::listed` meets its contract: the first line, the edit lines and the last, one behind the other.
+use Rattle.printed.specs.Sizes.{listing-length}
 use Rattle.printed.proofs.Writing.{put-all}
-use Rattle.printed.proofs.Editing.{put-listing}
+use Rattle.printed.proofs.Editing.{put-listing, records-count}
+use native.Mathlib.Omega.{arith}
 use borrow.Author.Needs.{needs}
 use Rattle.printed.proofs.listed.Statement.{statement}
 use Rattle.printed.proofs.listed.Tie as tie
@@ -21,7 +23,13 @@ returns : tie.Need-returns
 returns c =
     let lines = c .before .before .before .before .before .before in
     let first = lines .before .before .before .before in
-    put-all (put-listing _ _ _ _ _ (first .put-ok .ensures) (lines .put-edits .ensures) (c .before .before .put-pace .ensures))
+    let known = first .before .before .before in
+    let start = known .before in (
+      put-all (put-listing _ _ _ _ _ (first .put-ok .ensures) (lines .put-edits .ensures) (c .before .before .put-pace .ensures .0)),
+      listing-length _ _ (start .args .edits .now) _ (start .args .report) (search needs) (search needs)
+          (omega (arith, records-count (start .args .edits .now))) (search needs) (c .before .before .put-pace .ensures .1)
+          (λ i. omega (arith, known .shared-slice-known .given i)),
+    )
 
 pub listed-spec : {M : Type 1} → statement M
 listed-spec =

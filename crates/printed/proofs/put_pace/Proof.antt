@@ -1,7 +1,9 @@
 -- `printed::put_pace` meets its contract: by the cases of `paceLine`.
 use mathlib.Core.Path.{sym, ap}
 use Rattle.grammar.specs.Listing.{ascii, field, paceLine}
+use Rattle.printed.specs.Sizes.{pace-length, pace-idle}
 use Rattle.printed.proofs.Writing.{put-then, put-as}
+use native.Mathlib.Omega.{arith}
 use borrow.Author.Needs.{needs}
 use Rattle.printed.proofs.put_pace.Statement.{statement}
 use Rattle.printed.proofs.put_pace.Tie as tie
@@ -46,8 +48,10 @@ returns : tie.Need-returns
 unfolding ascii field paceLine
 returns c =
     let idle = c .before .before .before .before .before .before in
-    put-as (put-then (idle .put-text .ensures) (c .before .before .put-byte .ensures))
-    (ap (paceLine _ _) (sym (idle .before .before .before .enum-told .given .1)))
+    let told = idle .before .before .before .enum-told .given .1 in (
+      put-as (put-then (idle .put-text .ensures) (c .before .before .put-byte .ensures)) (ap (paceLine _ _) (sym told)),
+      pace-idle _ _ told,
+    )
 
 same-length-2 : tie.Need-same-length-2
 same-length-2 c = search needs
@@ -57,8 +61,13 @@ unfolding ascii field paceLine
 returns-2 c =
     let ms = c .before .before .before .before .before .before in
     let cycles = ms .before .before .before .before .before in
-    put-as (put-then (cycles .put-field .ensures) (put-then (ms .put-field2 .ensures) (c .before .before .put-byte2 .ensures)))
-    (ap (paceLine _ _) (sym (cycles .before .before .before .before .enum-told2 .given .1)))
+    let known = cycles .before in
+    let report = known .before .before .before .before .before .before .args .report in (
+      put-as (put-then (cycles .put-field .ensures) (put-then (ms .put-field2 .ensures) (c .before .before .put-byte2 .ensures)))
+          (ap (paceLine _ _) (sym (cycles .before .before .before .before .enum-told2 .given .1))),
+      pace-length (report .count) (report .sum) (report .pace)
+          (omega (arith, known .struct-known .given .0)) (omega (arith, known .struct-known .given .1 .0)),
+    )
 
 pub put-pace-spec : {M : Type 1} → statement M
 put-pace-spec =

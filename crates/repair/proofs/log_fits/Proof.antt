@@ -4,7 +4,8 @@ use native.Mathlib.Omega.{arith}
 use Prim.Native.Nat.{_-_, _≤_}
 use lib.ListN.{length}
 use Rattle.search.specs.Tokens.{reliability-within}
-use Rattle.repair.specs.Parses.{LogSoFar, log-none, log-more, log-told, log-denied}
+use Rattle.sets.specs.Telling.{denied}
+use Rattle.repair.specs.Parses.{LogSoFar, log-none, log-more, log-told}
 use Rattle.repair.proofs.log_fits.Statement.{statement}
 use Rattle.repair.proofs.log_fits.Tie as tie
 
@@ -15,7 +16,7 @@ abbrev μ-loop : tie.MeasureT-loop
 μ-loop words log terminals i₀ i = length log - i
 
 returns : tie.Need-returns Inv-loop μ-loop
-returns c = log-denied (λ f. omega (arith, f .count, c .if1 .taken))
+returns c = denied (λ f. omega (arith, f .count, c .if1 .taken))
 
 shared-slice-read-terminals : tie.Need-shared-slice-read-terminals Inv-loop μ-loop
 shared-slice-read-terminals c =
@@ -35,13 +36,13 @@ returns-2 : tie.Need-returns-2 Inv-loop μ-loop
 returns-2 c =
     let at-loop-test = c .before .before in
     let head = at-loop-test .before in
-    log-denied (λ f. omega (arith, f .low (head .loop .i) (at-loop-test .loop-test .taken), c .if2 .taken))
+    denied (λ f. omega (arith, f .low (head .loop .i) (at-loop-test .loop-test .taken), c .if2 .taken))
 
 returns-3 : tie.Need-returns-3 Inv-loop μ-loop
 returns-3 c =
     let at-loop-test = c .before .before .before in
     let head = at-loop-test .before in
-    log-denied (λ f. omega (arith, f .high (head .loop .i) (at-loop-test .loop-test .taken), c .if3 .taken))
+    denied (λ f. omega (arith, f .high (head .loop .i) (at-loop-test .loop-test .taken), c .if3 .taken))
 
 add-i : tie.Need-add-i Inv-loop μ-loop
 add-i c = search needs
