@@ -22,6 +22,7 @@ ghost use Rattle.pace.specs.Watch.{
 };
 use grammar::Refusal;
 use grammar::Report;
+use repair::Parsing;
 
 // The answer: the report, or a refusal. `pacedOf` of specs/Answer.antt says what each stands for.
 pub enum Paced {
@@ -61,6 +62,24 @@ struct Watch {
     since: u32,
     count: u32,
     sum: u64,
+}
+
+// The report of a log, from unchecked grammar words: it runs the parse, and leaves in the buffers what the parse leaves.
+pub fn pace(
+    words: &[u16],
+    log: &[u16],
+    ticks: &[u32],
+    edits: &mut [u16],
+    rules: &mut [u16],
+) -> Paced
+    ensures { λ r. ⌜ Reported (now (words .entry)) (now (log .entry)) (now (ticks .entry)) (length (now (edits .entry)))
+        (length (now (rules .entry))) (pacedOf r) (now (edits .exit)) (now (rules .exit)) ⌝ }
+{
+    let parsing = repair::parse(words, log, edits, rules);
+    match parsing {
+        Parsing::Counts(_, records, _) => ended(words, log, ticks, edits, rules, records),
+        Parsing::Refused(refusal) => Paced::Refused(lowest(refusal, ticks.len() == log.len())),
+    }
 }
 
 // ---- The answer, once the parse is known

@@ -44,7 +44,7 @@ loop-again c =
     let loop = c .before .before .before .before .before .before .loop in
     let loop-test = c .before .before .before .before .before .loop-test in
     let add-rule = c .before .before .before .add-rule in
-    falling-goes (loop .inv) (loop-test .taken) (add-rule .ensures) (c .either .ensures)
+    falling-goes (loop .inv) (omega arith) (add-rule .ensures) (c .either .ensures)
 
 same-length : tie.Need-same-length Inv-loop μ-loop
 same-length c = c .before .loop .inv .turn .grown .same

@@ -1,0 +1,55 @@
+-- `show::show` meets its contract: refusal 1, or what the file gives.
+use native.Mathlib.Omega.{arith}
+use mathlib.Core.Path.{ap}
+use native.Mathlib.Omega.{arith}
+use Rattle.printed.specs.Answer.{blocksOf}
+use Rattle.printed.specs.Sizes.{refused-length}
+use Rattle.show.specs.Shown.{shown, input-counted, input-refused}
+use borrow.Author.Needs.{needs}
+use Rattle.show.proofs.show.Statement.{statement}
+use Rattle.show.proofs.show.Tie as tie
+
+blocks-of-requires : tie.Need-blocks-of-requires
+blocks-of-requires c κs = search needs
+
+enum-known-counted : tie.Need-enum-known-counted
+enum-known-counted c = search needs
+
+show-file-requires : tie.Need-show-file-requires
+show-file-requires c κs =
+    let right = input-counted (c .before .before .before .before .blocks-of .ensures) (ap blocksOf (c .before .before .counted .given .1)) in
+    (c .before .before .before .before .before .before .before .pre, (right .0, right .1))
+
+enum-known-counted-2 : tie.Need-enum-known-counted-2
+enum-known-counted-2 c = search needs
+
+refused-requires : tie.Need-refused-requires
+refused-requires c κs = search needs
+
+same-length : tie.Need-same-length
+same-length c = search needs
+
+returns : tie.Need-returns
+returns c = search needs
+
+same-length-2 : tie.Need-same-length-2
+same-length-2 c = search needs
+
+returns-2 : tie.Need-returns-2
+returns-2 c =
+    let room = c .before .before .before .before .before .before .before .before .before .before .pre in
+    shown (input-refused (c .before .before .before .before .before .before .before .blocks-of .ensures) (ap blocksOf (c .before .before .before .before .before .counted2 .given .1))) (c .before .before .refused .ensures) (omega (arith, refused-length (c .before .before .before .before .before .counted2 .given .0 .0)))
+
+pub show-spec : {M : Type 1} → statement M
+show-spec =
+    tie.close
+    (tie.spec
+    blocks-of-requires
+    enum-known-counted
+    show-file-requires
+    enum-known-counted-2
+    refused-requires
+    same-length
+    returns
+    same-length-2
+    returns-2)
