@@ -6,3 +6,4 @@ pub mod Steps
 pub mod Turns
 pub mod Runs
 pub mod Parses
+pub mod Unique
