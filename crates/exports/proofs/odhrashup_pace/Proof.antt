@@ -1,0 +1,80 @@
+-- `exports::odhrashup_pace` meets its contract: by the report, idle or with its mean, or the refusal.
+use mathlib.Core.Path.{ap}
+use Rattle.pace.specs.Answer.{pacedOf}
+use Rattle.exports.proofs.Answers.{paces, paces-not}
+use borrow.Author.Needs.{needs}
+use Rattle.exports.proofs.odhrashup_pace.Statement.{statement}
+use Rattle.exports.proofs.odhrashup_pace.Tie as tie
+
+clear-requires : tie.Need-clear-requires
+clear-requires c κs = search needs
+
+clear-mean-requires : tie.Need-clear-mean-requires
+clear-mean-requires c κs = search needs
+
+pace-requires : tie.Need-pace-requires
+pace-requires c κs = search needs
+
+enum-known-paced : tie.Need-enum-known-paced
+enum-known-paced c = search needs
+
+put-report-requires : tie.Need-put-report-requires
+put-report-requires c κs = search needs
+
+enum-known-paced-2 : tie.Need-enum-known-paced-2
+enum-known-paced-2 c = search needs
+
+refusal-number-requires : tie.Need-refusal-number-requires
+refusal-number-requires c κs = search needs
+
+same-length : tie.Need-same-length
+same-length c = search needs
+
+same-length-2 : tie.Need-same-length-2
+same-length-2 c = search needs
+
+same-length-3 : tie.Need-same-length-3
+same-length-3 c = search needs
+
+same-length-4 : tie.Need-same-length-4
+same-length-4 c = search needs
+
+returns : tie.Need-returns
+returns c = paces (c .before .before .before .before .before .before .before .before .before .before .before .before .before .before .pace .ensures) _ _ (ap pacedOf (c .before .before .before .before .before .before .before .before .paced .given .1)) (c .before .before .before .before .before .before .before .before .before .before .before .before .before .before .before .before .before .before .before .before .before .before .before .clear .ensures) (c .before .before .before .before .before .before .before .before .before .before .before .before .before .before .before .before .before .before .before .clear-mean .ensures) (c .before .before .before .before .put-report .ensures)
+
+same-length-5 : tie.Need-same-length-5
+same-length-5 c = search needs
+
+same-length-6 : tie.Need-same-length-6
+same-length-6 c = search needs
+
+same-length-7 : tie.Need-same-length-7
+same-length-7 c = search needs
+
+same-length-8 : tie.Need-same-length-8
+same-length-8 c = search needs
+
+returns-2 : tie.Need-returns-2
+returns-2 c = paces-not (c .before .before .before .before .before .before .before .before .pace .ensures) _ _ (ap pacedOf (c .before .before .paced2 .given .1)) (c .before .before .before .before .before .before .before .before .before .before .before .before .before .before .before .before .before .clear .ensures) (c .before .before .before .before .before .before .before .before .before .before .before .before .before .clear-mean .ensures) (c .refusal-number .ensures)
+
+pub odhrashup-pace-spec : {M : Type 1} → statement M
+odhrashup-pace-spec =
+    tie.close
+    (tie.spec
+    clear-requires
+    clear-mean-requires
+    pace-requires
+    enum-known-paced
+    put-report-requires
+    enum-known-paced-2
+    refusal-number-requires
+    same-length
+    same-length-2
+    same-length-3
+    same-length-4
+    returns
+    same-length-5
+    same-length-6
+    same-length-7
+    same-length-8
+    returns-2)

@@ -1,0 +1,78 @@
+-- `exports::odhrashup_parse` meets its contract: three counts over a cleared buffer, or the buffer cleared.
+use mathlib.Core.Path.{ap}
+use Rattle.repair.specs.Runs.{parsingOf}
+use Rattle.exports.proofs.Answers.{parses, parses-not}
+use borrow.Author.Needs.{needs}
+use Rattle.exports.proofs.odhrashup_parse.Statement.{statement}
+use Rattle.exports.proofs.odhrashup_parse.Tie as tie
+
+clear-requires : tie.Need-clear-requires
+clear-requires c κs = search needs
+
+parse-requires : tie.Need-parse-requires
+parse-requires c κs = search needs
+
+enum-known-parsing : tie.Need-enum-known-parsing
+enum-known-parsing c = search needs
+
+put-requires : tie.Need-put-requires
+put-requires c κs = search needs
+
+put-requires-2 : tie.Need-put-requires-2
+put-requires-2 c κs = search needs
+
+put-requires-3 : tie.Need-put-requires-3
+put-requires-3 c κs = search needs
+
+enum-known-parsing-2 : tie.Need-enum-known-parsing-2
+enum-known-parsing-2 c = search needs
+
+refusal-number-requires : tie.Need-refusal-number-requires
+refusal-number-requires c κs = search needs
+
+same-length : tie.Need-same-length
+same-length c = search needs
+
+same-length-2 : tie.Need-same-length-2
+same-length-2 c = search needs
+
+same-length-3 : tie.Need-same-length-3
+same-length-3 c = search needs
+
+returns : tie.Need-returns
+unfolding parsingOf
+returns c = parses (c .before .before .before .before .before .before .before .before .before .before .before .before .before .before .before .before .before .before .before .parse .ensures) _ (ap parsingOf (c .before .before .before .before .before .before .before .before .before .before .before .before .before .parsing .given .1)) (c .before .before .before .before .before .before .before .before .before .before .before .before .before .before .before .before .before .before .before .before .before .before .before .before .clear .ensures) (c .before .before .before .before .before .before .before .before .before .before .put .ensures) (c .before .before .before .before .before .before .put2 .ensures) (c .before .before .put3 .ensures)
+
+same-length-4 : tie.Need-same-length-4
+same-length-4 c = search needs
+
+same-length-5 : tie.Need-same-length-5
+same-length-5 c = search needs
+
+same-length-6 : tie.Need-same-length-6
+same-length-6 c = search needs
+
+returns-2 : tie.Need-returns-2
+unfolding parsingOf
+returns-2 c = parses-not (c .before .before .before .before .before .before .before .before .parse .ensures) _ (ap parsingOf (c .before .before .parsing2 .given .1)) (c .before .before .before .before .before .before .before .before .before .before .before .before .before .clear .ensures) (c .refusal-number .ensures)
+
+pub odhrashup-parse-spec : {M : Type 1} → statement M
+odhrashup-parse-spec =
+    tie.close
+    (tie.spec
+    clear-requires
+    parse-requires
+    enum-known-parsing
+    put-requires
+    put-requires-2
+    put-requires-3
+    enum-known-parsing-2
+    refusal-number-requires
+    same-length
+    same-length-2
+    same-length-3
+    returns
+    same-length-4
+    same-length-5
+    same-length-6
+    returns-2)

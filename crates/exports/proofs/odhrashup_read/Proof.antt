@@ -1,0 +1,60 @@
+-- `exports::odhrashup_read` meets its contract: one count over a cleared buffer, or the buffer cleared.
+use mathlib.Core.Path.{ap}
+use Rattle.blocks.specs.Answer.{readingOf}
+use Rattle.exports.proofs.Answers.{reads, reads-not}
+use borrow.Author.Needs.{needs}
+use Rattle.exports.proofs.odhrashup_read.Statement.{statement}
+use Rattle.exports.proofs.odhrashup_read.Tie as tie
+
+clear-requires : tie.Need-clear-requires
+clear-requires c κs = search needs
+
+read-requires : tie.Need-read-requires
+read-requires c κs = search needs
+
+enum-known-reading : tie.Need-enum-known-reading
+enum-known-reading c = search needs
+
+put-requires : tie.Need-put-requires
+put-requires c κs = search needs
+
+enum-known-reading-2 : tie.Need-enum-known-reading-2
+enum-known-reading-2 c = search needs
+
+refusal-number-requires : tie.Need-refusal-number-requires
+refusal-number-requires c κs = search needs
+
+same-length : tie.Need-same-length
+same-length c = search needs
+
+same-length-2 : tie.Need-same-length-2
+same-length-2 c = search needs
+
+returns : tie.Need-returns
+returns c = reads (c .before .before .before .before .before .before .before .before .before .read .ensures) _ (ap readingOf (c .before .before .before .before .before .reading .given .1)) (c .before .before .before .before .before .before .before .before .before .before .before .before .before .clear .ensures) (c .before .before .put .ensures)
+
+same-length-3 : tie.Need-same-length-3
+same-length-3 c = search needs
+
+same-length-4 : tie.Need-same-length-4
+same-length-4 c = search needs
+
+returns-2 : tie.Need-returns-2
+returns-2 c = reads-not (c .before .before .before .before .before .before .read .ensures) _ (ap readingOf (c .before .before .reading2 .given .1)) (c .before .before .before .before .before .before .before .before .before .before .clear .ensures) (c .refusal-number .ensures)
+
+pub odhrashup-read-spec : {M : Type 1} → statement M
+odhrashup-read-spec =
+    tie.close
+    (tie.spec
+    clear-requires
+    read-requires
+    enum-known-reading
+    put-requires
+    enum-known-reading-2
+    refusal-number-requires
+    same-length
+    same-length-2
+    returns
+    same-length-3
+    same-length-4
+    returns-2)

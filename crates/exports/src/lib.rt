@@ -1,0 +1,175 @@
+// The functions of the static library: reading, checking, parsing and pacing for callers that know numbers and slices alone.
+// None asks for anything beforehand. `include/odhrashup.h` declares them.
+ghost use mathlib.Core.Path.{_≡_};
+ghost use lib.ListN.{length, replicate, set};
+ghost use Rattle.grammar.specs.Refusals.{numberOf};
+ghost use Rattle.exports.specs.Status.{CheckedAs, PacedAs, ParsedAs, Put, ReadAs, plusZero};
+use blocks::Reading;
+use grammar::Pace;
+use grammar::Refusal;
+use grammar::Report;
+use pace::Paced;
+use repair::Parsing;
+use verdict::Checked;
+
+// The status of a report without a clean cycle.
+const IDLE: u32 = 1000;
+
+// Reads a grammar file. The status is 0 or 1 to 4; counts[0] is the number of words.
+#[no_mangle]
+pub extern "C" fn odhrashup_read(bytes: &[u8], words: &mut [u16], counts: &mut [u64]) -> u32
+    ensures { λ r. ⌜ ReadAs (now (bytes .entry)) (length (now (words .entry))) (length (now (counts .entry))) r
+        (now (words .exit)) (now (counts .exit)) ⌝ }
+{
+    clear(counts);
+    let reading = blocks::read(bytes, words);
+    match reading {
+        Reading::Words(count) => {
+            put(counts, 0, count as u64);
+            0
+        }
+        Reading::Refused(refusal) => refusal_number(refusal),
+    }
+}
+
+// Checks grammar words. The status is 0 or 5 to 9.
+#[no_mangle]
+pub extern "C" fn odhrashup_check(words: &[u16]) -> u32
+    ensures { λ r. ⌜ CheckedAs (now (words .entry)) r ⌝ }
+{
+    let checked = verdict::check(words);
+    match checked {
+        Checked::Accepted => 0,
+        Checked::Refused(refusal) => refusal_number(refusal),
+    }
+}
+
+// Repairs a log. The status is 0 or 5 to 12; the counts are the moves, the edit records and the rule numbers.
+#[no_mangle]
+pub extern "C" fn odhrashup_parse(
+    words: &[u16],
+    log: &[u16],
+    edits: &mut [u16],
+    rules: &mut [u16],
+    counts: &mut [u64],
+) -> u32
+    ensures { λ r. ⌜ ParsedAs (now (words .entry)) (now (log .entry)) (length (now (edits .entry))) (length (now (rules .entry)))
+        (length (now (counts .entry))) r (now (edits .exit)) (now (rules .exit)) (now (counts .exit)) ⌝ }
+{
+    clear(counts);
+    let parsing = repair::parse(words, log, edits, rules);
+    match parsing {
+        Parsing::Counts(moves, records, listed) => {
+            put(counts, 0, moves as u64);
+            put(counts, 1, records as u64);
+            put(counts, 2, listed as u64);
+            0
+        }
+        Parsing::Refused(refusal) => refusal_number(refusal),
+    }
+}
+
+// Repairs a log and times its clean cycles. The status is 0, 1000 where the station is idle, or 5 to 12; the counts are the
+// clean cycles and the sum of their times in ms. mean[0] is the mean, or NaN where the station is idle.
+#[no_mangle]
+pub extern "C" fn odhrashup_pace(
+    words: &[u16],
+    log: &[u16],
+    ticks: &[u32],
+    edits: &mut [u16],
+    rules: &mut [u16],
+    counts: &mut [u64],
+    mean: &mut [f64],
+) -> u32
+    ensures { λ r. ⌜ PacedAs (now (words .entry)) (now (log .entry)) (now (ticks .entry)) (length (now (edits .entry)))
+        (length (now (rules .entry))) (length (now (counts .entry))) (length (now (mean .entry))) r (now (edits .exit))
+        (now (rules .exit)) (now (counts .exit)) (now (mean .exit)) ⌝ }
+{
+    clear(counts);
+    clear_mean(mean);
+    let paced = pace::pace(words, log, ticks, edits, rules);
+    match paced {
+        Paced::Reported(report) => put_report(report, counts, mean),
+        Paced::Refused(refusal) => refusal_number(refusal),
+    }
+}
+
+// Writes a report where it fits, and gives its status.
+fn put_report(report: Report, counts: &mut [u64], mean: &mut [f64]) -> u32
+    ensures { λ r. ⌜ Put report (now (counts .entry)) (now (mean .entry)) r (now (counts .exit)) (now (mean .exit)) ⌝ }
+{
+    put(counts, 0, report.count as u64);
+    put(counts, 1, report.sum);
+    let pace = report.pace;
+    match pace {
+        Pace::Mean(ms) => {
+            put_mean(mean, ms);
+            0
+        }
+        Pace::Idle => {
+            put_mean(mean, 0.0 / 0.0);
+            IDLE
+        }
+    }
+}
+
+// ---- What they share
+
+fn refusal_number(refusal: Refusal) -> u32
+    ensures { λ r. ⌜ r ≡ numberOf refusal ⌝ }
+{
+    match refusal {
+        Refusal::BadSize => 1,
+        Refusal::BadCheck => 2,
+        Refusal::BadBlock => 3,
+        Refusal::ShortWords => 4,
+        Refusal::BadShape => 5,
+        Refusal::Unreachable => 6,
+        Refusal::NoString => 7,
+        Refusal::TooCostly => 8,
+        Refusal::SharedPredict => 9,
+        Refusal::BadLog => 10,
+        Refusal::StackFull => 11,
+        Refusal::NoRoom => 12,
+    }
+}
+
+// Makes every count zero.
+fn clear(counts: &mut [u64])
+    ensures { λ _. ⌜ now (counts .exit) ≡ replicate (length (now (counts .entry))) 0 ⌝ }
+{
+    let mut i = 0;
+    while i < counts.len() {
+        counts[i] = 0;
+        i += 1;
+    }
+}
+
+// Writes one count where it fits.
+fn put(counts: &mut [u64], at: usize, count: u64)
+    ensures { λ _. ⌜ now (counts .exit) ≡ set (now (counts .entry)) at count ⌝ }
+{
+    if at < counts.len() {
+        counts[at] = count;
+    }
+}
+
+// Makes every cell 0.0.
+fn clear_mean(mean: &mut [f64])
+    ensures { λ _. ⌜ now (mean .exit) ≡ replicate (length (now (mean .entry))) plusZero ⌝ }
+{
+    let mut i = 0;
+    while i < mean.len() {
+        mean[i] = 0.0;
+        i += 1;
+    }
+}
+
+// Writes the mean where it fits.
+fn put_mean(mean: &mut [f64], ms: f64)
+    ensures { λ _. ⌜ now (mean .exit) ≡ set (now (mean .entry)) 0 ms ⌝ }
+{
+    if 0 < mean.len() {
+        mean[0] = ms;
+    }
+}

@@ -1,0 +1,88 @@
+/* A bench that links the library: each function once, then an idle station and three refusals.
+ *
+ *    rt staticlib exports
+ *    cc -Iinclude examples/bench.c target/staticlib/libexports.a -o bench && ./bench
+ *
+ * The library is for x86-64 Linux. */
+#include <odhrashup.h>
+#include <stdio.h>
+
+#define LEN(a) (sizeof(a) / sizeof *(a))
+
+/* The words of grammar G, the sample of the printing program too: marks start 1, pole 2, crimp 3, done 4. */
+static const uint16_t grammar[] = {7, 4,  6, 1, 4, 0, 0, 0,  20, 60, 3, 9, 5, 15, 4, 40, 3, 2, 3, 2, 0,
+                                   2, 65, 64, 0, 0, 1, 3, 1, 66, 4,  2, 3, 2, 67, 3, 3,  2, 5, 6, 3, 0};
+
+static void put16(uint8_t *at, unsigned n) {
+    at[0] = (uint8_t)n;
+    at[1] = (uint8_t)(n >> 8);
+}
+
+/* The grammar file of one block: number, words used, 253 words, check. */
+static void make_file(uint8_t *block) {
+    unsigned long sum = 0;
+    for (int i = 0; i < 512; i++) block[i] = 0;
+    put16(block + 2, LEN(grammar));
+    for (size_t i = 0; i < LEN(grammar); i++) put16(block + 4 + 2 * i, grammar[i]);
+    for (unsigned i = 0; i < 510; i++) sum += (i + 1ul) * block[i];
+    put16(block + 510, (unsigned)(sum % 65521));
+}
+
+/* The status decides what is shown. An idle station has no figure, and a refusal has a number only. */
+static void show(const char *what, uint32_t status, const uint64_t *counts, const double *mean) {
+    if (status == 0)
+        printf("%s: %llu clean cycles, %llu ms in all, mean %.1f ms\n", what, (unsigned long long)counts[0],
+               (unsigned long long)counts[1], mean[0]);
+    else if (status == ODHRASHUP_IDLE)
+        printf("%s: idle, mean[0] is %s\n", what, mean[0] != mean[0] ? "NaN" : "a number");
+    else
+        printf("%s: refused %u, cleared %d\n", what, status, counts[0] == 0 && counts[1] == 0 && mean[0] == 0);
+}
+
+int main(void) {
+    static uint8_t file[512];
+    static uint16_t words[2783], edits[24576], rules[16384];
+    uint64_t counts[3];
+    double mean[1];
+
+    /* start start pole crimp done: the first cycle lost all but its start. */
+    const uint16_t log[] = {1, 1, 2, 3, 4};
+    const uint32_t ticks[] = {100, 250, 400, 900, 1250};
+    const uint16_t strange[] = {1, 99};
+
+    make_file(file);
+    uint32_t status = odhrashup_read(file, LEN(file), words, LEN(words), counts, LEN(counts));
+    size_t n = (size_t)counts[0];
+    printf("read: status %u, %zu words\n", status, n);
+
+    printf("check: status %u\n", odhrashup_check(words, n));
+
+    status = odhrashup_parse(words, n, log, LEN(log), edits, LEN(edits), rules, LEN(rules), counts, LEN(counts));
+    printf("parse: status %u, %llu moves, %llu edits, %llu rules\n", status, (unsigned long long)counts[0],
+           (unsigned long long)counts[1], (unsigned long long)counts[2]);
+    for (uint64_t i = 0; i < counts[1]; i++)
+        printf("  %s symbol %u at place %u\n", edits[3 * i] == 1 ? "delete" : "insert", edits[3 * i + 2], edits[3 * i + 1]);
+
+    status = odhrashup_pace(words, n, log, LEN(log), ticks, LEN(ticks), edits, LEN(edits), rules, LEN(rules), counts,
+                            LEN(counts), mean, LEN(mean));
+    show("pace", status, counts, mean);
+
+    /* The first mark alone: its cycle is repaired, so none is clean. */
+    status = odhrashup_pace(words, n, log, 1, ticks, 1, edits, LEN(edits), rules, LEN(rules), counts, LEN(counts), mean,
+                            LEN(mean));
+    show("one mark", status, counts, mean);
+
+    status = odhrashup_pace(words, n, strange, 2, ticks, 2, edits, LEN(edits), rules, LEN(rules), counts, LEN(counts), mean,
+                            LEN(mean));
+    show("a strange token", status, counts, mean);
+
+    status = odhrashup_pace(words, n, log, LEN(log), ticks, LEN(ticks), edits, 5, rules, LEN(rules), counts, LEN(counts),
+                            mean, LEN(mean));
+    show("room for one edit", status, counts, mean);
+
+    file[9] ^= 1;
+    status = odhrashup_read(file, LEN(file), words, LEN(words), counts, LEN(counts));
+    printf("a damaged file: refused %u, %llu words\n", status, (unsigned long long)counts[0]);
+    printf("no words: refused %u\n", odhrashup_check(words, 0));
+    return 0;
+}
