@@ -1,6 +1,7 @@
 //! The implementations that are compared and measured.
 
 use crate::answer::Implementation;
+use crate::library::Library;
 use crate::plain::Plain;
 use crate::tuned::Tuned;
 
@@ -9,8 +10,11 @@ use crate::tuned::Tuned;
 pub const PLAIN: usize = 0;
 pub const TUNED: usize = 1;
 
-/// All implementations. A further one, such as a static library behind a C interface, joins
-/// every command by one more line here.
+/// All implementations: the proved one too, where the environment names its processes.
 pub fn all() -> Vec<Box<dyn Implementation>> {
-    vec![Box::new(Plain), Box::new(Tuned::default())]
+    let mut all: Vec<Box<dyn Implementation>> = vec![Box::new(Plain), Box::new(Tuned::default())];
+    if let Some(library) = Library::from_environment() {
+        all.push(Box::new(library));
+    }
+    all
 }

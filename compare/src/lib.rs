@@ -4,6 +4,7 @@
 //! * [`answer`]: what every implementation answers, and the trait they share;
 //! * [`plain`]: the plain implementation, a sentence of the document at a time;
 //! * [`tuned`]: the same answers, made for speed;
+//! * [`library`]: the proved implementation, behind its C interface;
 //! * [`implementations`]: the list of those that are compared and measured;
 //! * [`generate`]: seeded inputs of every kind;
 //! * [`differ`]: runs one input on implementations and tells the first difference;
@@ -14,5 +15,6 @@ pub mod differ;
 pub mod examples;
 pub mod generate;
 pub mod implementations;
+pub mod library;
 pub mod plain;
 pub mod tuned;
