@@ -1,3 +1,4 @@
 -- What the exported functions promise.
 pub mod Status
 pub mod Fitting
+pub mod Unique
