@@ -77,7 +77,10 @@ pub trait Implementation {
         edits: &mut [u16],
         rules: &mut [u16],
     ) -> Result<Report, Refusal>;
+}
 
-    /// The printing program: standard input to the text it prints.
+/// An implementation that also has the printing program.
+pub trait Prints: Implementation {
+    /// Standard input to the text that the program prints.
     fn listing(&self, input: &[u8]) -> String;
 }

@@ -1,6 +1,6 @@
 //! Runs one input on implementations and tells where they differ.
 
-use crate::answer::{Implementation, Pace, Refusal};
+use crate::answer::{Pace, Prints, Refusal};
 use crate::generate::Input;
 
 /// Everything an implementation gives back for one input: the refusal or the numbers it
@@ -15,7 +15,7 @@ pub struct Outcome {
 }
 
 /// Runs one input on one implementation.
-pub fn outcome(implementation: &dyn Implementation, input: &Input) -> Outcome {
+pub fn outcome(implementation: &dyn Prints, input: &Input) -> Outcome {
     let mut text = String::new();
     let (answer, buffers) = match input.clone() {
         Input::Read { file, mut words } => {

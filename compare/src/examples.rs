@@ -1,7 +1,7 @@
 //! The bench examples of document 01 and its further claims. The expected results are
 //! written by hand from the document's table, never taken from a program.
 
-use crate::answer::{Implementation, Pace};
+use crate::answer::{Pace, Prints};
 use crate::generate::families::bench_g;
 use crate::generate::file::{file_of, standard_input};
 use crate::generate::Draft;
@@ -195,7 +195,7 @@ pace cycles 1 ms 1000
 ";
 
 /// Runs all examples on an implementation and tells what differs from the document.
-pub fn failures(implementation: &dyn Implementation) -> Vec<String> {
+pub fn failures(implementation: &dyn Prints) -> Vec<String> {
     let mut failures = Vec::new();
     for example in all() {
         let mut expect = |what: &str, good: bool| {

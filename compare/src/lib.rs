@@ -5,6 +5,7 @@
 //! * [`plain`]: the plain implementation, a sentence of the document at a time;
 //! * [`tuned`]: the same answers, made for speed;
 //! * [`library`]: the proved implementation, behind its C interface;
+//! * `linked`: the same, linked into the benchmark;
 //! * [`implementations`]: the list of those that are compared and measured;
 //! * [`generate`]: seeded inputs of every kind;
 //! * [`differ`]: runs one input on implementations and tells the first difference;
@@ -16,5 +17,7 @@ pub mod examples;
 pub mod generate;
 pub mod implementations;
 pub mod library;
+#[cfg(feature = "linked")]
+pub mod linked;
 pub mod plain;
 pub mod tuned;

@@ -3,7 +3,7 @@
 //! since the library is for x86-64 and may have to run under an emulator. `run` builds both and
 //! names their commands in `ODHRASHUP_DRIVER` and `ODHRASHUP_LISTINGS`.
 
-use crate::answer::{Implementation, Pace, Parsed, Refusal, Report};
+use crate::answer::{Implementation, Pace, Parsed, Prints, Refusal, Report};
 use std::cell::RefCell;
 use std::io::{BufRead, BufReader, BufWriter, Read, Write};
 use std::process::{Child, ChildStdin, ChildStdout, Command, Stdio};
@@ -206,7 +206,9 @@ impl Implementation for Library {
         };
         Ok(Report { cycles, ms, pace })
     }
+}
 
+impl Prints for Library {
     fn listing(&self, input: &[u8]) -> String {
         let mut listings = self.listings.borrow_mut();
         listings.put_u32(input.len());

@@ -18,7 +18,7 @@ pub use parse::{needed, parse};
 pub use reader::read;
 pub use sets::{Sets, TerminalSet};
 
-use crate::answer::{Implementation, Parsed, Refusal, Report};
+use crate::answer::{Implementation, Parsed, Prints, Refusal, Report};
 
 /// The plain implementation as a column of the comparison.
 pub struct Plain;
@@ -56,7 +56,9 @@ impl Implementation for Plain {
     ) -> Result<Report, Refusal> {
         report(words, tokens, ticks, edits, rules)
     }
+}
 
+impl Prints for Plain {
     fn listing(&self, input: &[u8]) -> String {
         listing(input)
     }

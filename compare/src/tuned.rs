@@ -20,7 +20,7 @@ pub use parse::parse;
 pub use reader::read;
 pub use tables::Tables;
 
-use crate::answer::{Implementation, Parsed, Refusal, Report};
+use crate::answer::{Implementation, Parsed, Prints, Refusal, Report};
 use std::cell::RefCell;
 
 /// The tuned implementation as a column of the comparison, with the tables it keeps.
@@ -69,7 +69,9 @@ impl Implementation for Tuned {
             rules,
         )
     }
+}
 
+impl Prints for Tuned {
     fn listing(&self, input: &[u8]) -> String {
         listing(&mut self.tables.borrow_mut(), input)
     }

@@ -1,21 +1,21 @@
 //! Single sentences of document 01, each with an answer worked out by hand, on every
 //! implementation.
 
-use compare::answer::{Implementation, Pace, Parsed};
+use compare::answer::{Pace, Parsed, Prints};
 use compare::generate::families::bench_g;
 use compare::generate::file::file_of;
 use compare::generate::Draft;
 use compare::implementations;
 
 /// Runs a test on every implementation.
-fn each(test: impl Fn(&dyn Implementation)) {
+fn each(test: impl Fn(&dyn Prints)) {
     for implementation in implementations::all() {
         test(implementation.as_ref());
     }
 }
 
 /// Count, sum and mean of the report for a log.
-fn report(on: &dyn Implementation, draft: &Draft, log: &[u16], ticks: &[u32]) -> (u64, u64, f64) {
+fn report(on: &dyn Prints, draft: &Draft, log: &[u16], ticks: &[u32]) -> (u64, u64, f64) {
     let (mut edits, mut rules) = (vec![0; 99], vec![0; 99]);
     let report = on.report(&draft.words(), log, ticks, &mut edits, &mut rules);
     let report = report.expect("not refused");

@@ -2,12 +2,13 @@
 //!
 //! Every figure is a median over repeated runs; where a row covers several logs, it shows the
 //! median over the logs and in brackets the least and the largest. Ratios are taken log by
-//! log against the tuned implementation.
+//! log. Before a log is measured, all implementations are held against each other on it:
+//! answers and every word of both buffers.
 
 use compare::answer::{Implementation, LISTING_EDITS, LISTING_RULES, LISTING_WORDS};
 use compare::generate::log::{self, Sampler};
 use compare::generate::{families, file, grammar, Draft, Random};
-use compare::implementations::{self, TUNED};
+use compare::implementations::{self, PLAIN, TUNED};
 use std::hint::black_box;
 use std::time::Instant;
 
@@ -24,7 +25,7 @@ fn main() {
     let seed = std::env::args().nth(1).and_then(|s| s.parse().ok());
     let seed = seed.unwrap_or(1);
     let bench = Bench {
-        columns: implementations::all(),
+        columns: implementations::measured(),
     };
     let mut random = Random::new(seed);
     let g = families::bench_g();
@@ -48,6 +49,14 @@ fn main() {
 
 /// A log with its ticks.
 type Log = (Vec<u16>, Vec<u32>);
+
+/// The edit words and the rule words that a call is lent.
+type Lent = (Vec<u16>, Vec<u16>);
+
+/// As many as the printing program lends, with old content.
+fn lent() -> Lent {
+    (vec![0xAAAA; LISTING_EDITS], vec![0xAAAA; LISTING_RULES])
+}
 
 /// The columns of the table.
 struct Bench {
@@ -113,7 +122,12 @@ impl Bench {
 
     fn parse_row(&self, name: &str, draft: &Draft, logs: &[Log]) {
         let words = draft.words();
-        let (mut edits, mut rules) = (vec![0; LISTING_EDITS], vec![0; LISTING_RULES]);
+        let (mut edits, mut rules) = lent();
+        for (tokens, _) in logs {
+            self.agree(|column, (edits, rules)| {
+                format!("{:?}", column.parse(&words, tokens, edits, rules))
+            });
+        }
         self.row(
             name,
             logs,
@@ -127,7 +141,12 @@ impl Bench {
 
     fn report_row(&self, name: &str, draft: &Draft, logs: &[Log]) {
         let words = draft.words();
-        let (mut edits, mut rules) = (vec![0; LISTING_EDITS], vec![0; LISTING_RULES]);
+        let (mut edits, mut rules) = lent();
+        for (tokens, ticks) in logs {
+            self.agree(|column, (edits, rules)| {
+                format!("{:?}", column.report(&words, tokens, ticks, edits, rules))
+            });
+        }
         self.row(
             name,
             logs,
@@ -140,15 +159,32 @@ impl Bench {
         );
     }
 
+    /// Stops where two columns answer differently or leave different words.
+    fn agree(&self, mut call: impl FnMut(&dyn Implementation, &mut Lent) -> String) {
+        let mut outcomes = self.columns.iter().map(|column| {
+            let mut lent = lent();
+            let answer = call(column.as_ref(), &mut lent);
+            (answer, lent)
+        });
+        let first = outcomes.next().expect("a column");
+        assert!(outcomes.all(|other| other == first), "the columns differ");
+    }
+
+    /// The ratios of a row: which column over which.
+    fn ratios(&self) -> Vec<(usize, usize)> {
+        let proved = (TUNED + 1..self.columns.len()).flat_map(|at| [(at, TUNED), (at, PLAIN)]);
+        std::iter::once((PLAIN, TUNED)).chain(proved).collect()
+    }
+
     fn head(&self, title: &str) {
         println!("\n{title}");
         print!("{:<28}", "");
         for column in &self.columns {
-            print!("{:>28}", column.name());
+            print!("{:>24}", column.name());
         }
-        let tuned = self.columns[TUNED].name();
-        for column in self.columns.iter().filter(|column| column.name() != tuned) {
-            print!("{:>28}", format!("{}/{tuned}", column.name()));
+        for (over, under) in self.ratios() {
+            let names = [over, under].map(|at| self.columns[at].name());
+            print!("{:>24}", names.join("/"));
         }
         println!();
     }
@@ -176,13 +212,12 @@ impl Bench {
             .collect();
         print!("{name:<28}");
         for figures in &figures {
-            print!("{:>28}", spread(figures));
+            print!("{:>24}", spread(figures));
         }
-        let (mut others, tuned) = (figures.clone(), &figures[TUNED]);
-        others.remove(TUNED);
-        for figures in others {
-            let ratios: Vec<f64> = figures.iter().zip(tuned).map(|(a, b)| a / b).collect();
-            print!("{:>28}", spread(&ratios));
+        for (over, under) in self.ratios() {
+            let pairs = figures[over].iter().zip(&figures[under]);
+            let ratios: Vec<f64> = pairs.map(|(a, b)| a / b).collect();
+            print!("{:>24}", spread(&ratios));
         }
         println!();
     }
