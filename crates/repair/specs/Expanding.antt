@@ -1,5 +1,5 @@
 -- An expand: the rule, the two refusals that it can meet, and what it leaves.
-use Prim.Native.Nat.{ℕ, zero, suc, _+_, _-_, _*_, _≤_, _<_, _^_}
+use Prim.Native.Nat.{ℕ, zero, suc, _+_, _-_, _*_, _/_, _%_, _≤_, _<_, _^_}
 use mathlib.Core.Path.{_≡_, refl, sym, ap, ap₂, _∙_, subst}
 use mathlib.Core.Bool.{Bool, true, false, cond}
 use mathlib.Core.Option.{Option, none, some}
@@ -10,7 +10,7 @@ use lib.ListN.{length, getD, take, drop, set, length-append, length-set, length-
 use lib.Seq.{getD-take, getD-drop, take-suc-set, length-take-le}
 use lib.Dec.{ltb}
 use borrow.Author.Tests.{lt-ltb, le-ltb}
-use Rattle.grammar.specs.Words.{word, Shaped, rightSide, rightSize, rulePlace, ruleCount, nonterminalCount}
+use Rattle.grammar.specs.Words.{word, Shaped, RuleSymbol, rightSide, rightSize, rulePlace, ruleCount, terminalCount, nonterminalCount}
 use Rattle.grammar.specs.Derivation.{First}
 use Rattle.grammar.specs.Grammar.{RuleOf}
 use Rattle.grammar.specs.declared.Refusal.{Refusal}
@@ -19,17 +19,21 @@ use Rattle.stack.specs.Pile.{pile, pile-length, pile-same, pile-push}
 use Rattle.stack.specs.Push.{CanPush, Pushed}
 use Rattle.stack.specs.Tests.{le-or-lt}
 use Rattle.stack.specs.declared.Parser.{Parser}
-use Rattle.verdict.specs.Tables.{Block}
+use Rattle.stack.specs.Windows.{Shows}
+use Rattle.verdict.specs.Tables.{Block, packed}
 use Rattle.repair.specs.Lookup.{Linked, CanLookUp, RuleFor}
 use Rattle.repair.specs.declared.Turned.{Turned}
 use Rattle.repair.specs.declared.Turned.the-variants.{On, Refused}
 
 -- What an expand needs: the tables, a nonterminal on top with the token in its FIRST, and room to count.
-pub record CanExpand (ws ruleFirsts heads blocks stack rules : List ℕ) (d : Parser) (t : ℕ) : Type 0 where
+pub record CanExpand (ws ruleFirsts heads blocks rights stack rules : List ℕ) (d : Parser) (top t : ℕ) : Type 0 where
   pub some : 0 < d .height
   pub height : d .height ≤ 256
   pub cells : 264 ≤ length stack
-  pub look-up : CanLookUp ws ruleFirsts heads blocks (getD stack (d .height - 1) 0) t
+  pub on-top : top ≡ getD stack (d .height - 1) 0
+  pub look-up : CanLookUp ws ruleFirsts heads blocks top t
+  pub rights-size : length rights ≡ 256
+  pub right : (p : ℕ) → p < ruleCount ws → getD rights p 0 ≡ packed (rightSide ws p)
   pub room : d .moves + 1 < 2 ^ 64
 
 -- The rule of an expand, with its right side.
@@ -55,11 +59,13 @@ pub record Expanded (stack rules : List ℕ) (d : Parser) (β : List ℕ) (numbe
   pub size : length rules′ ≡ length rules
   pub front : take (q .listed) rules′ ≡ take (d .listed) rules ++ (number ∷ [])
 
+-- With it comes the window that shows the right side.
 unfoldable pub ExpandedOf : List ℕ → List ℕ → List ℕ → Parser → ℕ → List ℕ → List ℕ → Turned → Type 0
-ExpandedOf ws stack rules d t stack′ rules′ (On q) =
+ExpandedOf ws stack rules d t stack′ rules′ (On q window) =
     (r : Ruled ws (getD stack (d .height - 1) 0) t)
     × (expandLimit (d .height - 1 + length (r .right)) (d .listed) (length rules) ≡ none)
     × Expanded stack rules d (r .right) (r .number) stack′ rules′ q
+    × Shows window (pile stack′ (q .height))
 ExpandedOf ws stack rules d t stack′ rules′ (Refused x) =
     (r : Ruled ws (getD stack (d .height - 1) 0) t)
     × (expandLimit (d .height - 1 + length (r .right)) (d .listed) (length rules) ≡ some x)
@@ -106,16 +112,36 @@ module _ {ws : List ℕ} (shaped : Shaped ws) (p : ℕ) (counted : p < ruleCount
       ∙ ap (λ k. getD (rightSide ws p) k 0) (sym e))
       ∙ ap (λ s. rightSide ws p ++ s) (pile-same after stack at (h .below))
 
+  -- Each of its symbols is a byte.
+  pub right-small : (k : ℕ) → k < length (rightSide ws p) → getD (rightSide ws p) k 0 < 256
+  right-small k l =
+      let low : k < rightSize ws p = omega (arith, right-length) in
+      subst (λ x. x < 256) (sym (right-at k low)) (small (shaped .rules p counted .symbols k low))
+    where
+      small : {x : ℕ} → RuleSymbol (terminalCount ws) (nonterminalCount ws) x → x < 256
+      small (RuleSymbol.terminal a b) = omega (arith, shaped .terminals-high)
+      small (RuleSymbol.nonterminal a b) = omega (arith, shaped .nonterminals-high)
+
+-- A packed right side shows it, whatever it lies on.
+shows-packed : (β σ : List ℕ) → ((k : ℕ) → k < length β → getD β k 0 < 256) → Shows (packed β) (β ++ σ)
+unfolding packed
+shows-packed [] σ small = Shows.nothing refl
+shows-packed (x ∷ β) σ small =
+    let low : x < 256 = small 0 (omega arith) in
+    let rest : (x + 256 * packed β) / 256 ≡ packed β = omega arith in
+    Shows.symbol {w = x + 256 * packed β} {x = x} {σ = β ++ σ} (omega arith)
+    (subst (λ w. Shows w (β ++ σ)) (sym rest) (shows-packed β σ (λ k l. small (suc k) (omega arith))))
+
 -- ---- The code's steps
 
-module _ {ws ruleFirsts heads blocks stack rules : List ℕ} {d : Parser} {t : ℕ} (can : CanExpand ws ruleFirsts heads blocks stack rules d t)
-    (rule size : ℕ) (found : RuleFor ws (getD stack (d .height - 1) 0) t rule) (sized : size ≡ getD blocks (16 * rule + 8) 0) where
+module _ {ws ruleFirsts heads blocks rights stack rules : List ℕ} {d : Parser} {top t : ℕ}
+    (can : CanExpand ws ruleFirsts heads blocks rights stack rules d top t) (rule size : ℕ) (found : RuleFor ws top t rule) (sized : size ≡ getD blocks (16 * rule + 8) 0) where
   ruled : Ruled ws (getD stack (d .height - 1) 0) t
   ruled =
       record {
         number = rule;
         right = rightSide ws rule;
-        rule = record { counted = found .counted; left = found .left; right = refl };
+        rule = record { counted = found .counted; left = sym (can .on-top) ∙ found .left; right = refl };
         first = found .first;
       }
 
@@ -136,13 +162,17 @@ module _ {ws ruleFirsts heads blocks stack rules : List ℕ} {d : Parser} {t : �
   unfolding ExpandedOf expandLimit ruled
   expand-no-room l h = (ruled, rw (sym size-right, le-ltb 256 (d .height - 1 + size) l, le-ltb (d .listed) (length rules) h))
 
-  pub expand-on : {after : List ℕ} {q : Parser} → d .height - 1 + size ≤ 256 → d .listed < length rules
+  pub expand-on : {after : List ℕ} {q : Parser} {window : ℕ} → d .height - 1 + size ≤ 256 → d .listed < length rules
       → Pushed blocks (16 * rule) stack (d .height - 1) after
       → q ≡ record { place = d .place; height = d .height - 1 + size; moves = d .moves + 1; records = d .records; listed = d .listed + 1 }
-      → ExpandedOf ws stack rules d t after (set rules (d .listed) rule) (On q)
+      → window ≡ getD rights rule 0 → ExpandedOf ws stack rules d t after (set rules (d .listed) rule) (On q window)
   unfolding ExpandedOf expandLimit ruled
-  expand-on {after} {q} l h p e =
-      let one : d .listed + 1 ≡ suc (d .listed) = omega arith in (
+  expand-on {after} {q} {window} l h p e v =
+      let one : d .listed + 1 ≡ suc (d .listed) = omega arith in
+      let shaped = can .look-up .linked .shaped in
+      let laid : pile after (d .height - 1 + size) ≡ rightSide ws rule ++ pile stack (d .height - 1) =
+      ap (λ n. pile after (d .height - 1 + n)) size-block
+      ∙ block-laid shaped rule (found .counted) (can .look-up .linked .block rule (found .counted)) p in (
         ruled,
         rw (sym size-right, le-ltb 256 (d .height - 1 + size) l, lt-ltb (d .listed) (length rules) h),
         subst (λ x. Expanded stack rules d (rightSide ws rule) rule after (set rules (d .listed) rule) x) (sym e)
@@ -152,11 +182,13 @@ module _ {ws ruleFirsts heads blocks stack rules : List ℕ} {d : Parser} {t : �
               moves = refl;
               records = refl;
               listed = refl;
-              laid =
-                  ap (λ n. pile after (d .height - 1 + n)) size-block
-                  ∙ block-laid (can .look-up .linked .shaped) rule (found .counted) (can .look-up .linked .block rule (found .counted)) p;
+              laid = laid;
               cells = p .size;
               size = length-set rules (d .listed) rule;
               front = ap (λ n. take n (set rules (d .listed) rule)) one ∙ take-suc-set rules (d .listed) rule h;
             }),
+        subst (λ x. Shows window (pile after (x .height))) (sym e)
+            (subst (λ σ. Shows window σ) (sym laid)
+            (subst (λ w. Shows w (rightSide ws rule ++ pile stack (d .height - 1))) (sym (v ∙ can .right rule (found .counted)))
+            (shows-packed (rightSide ws rule) (pile stack (d .height - 1)) (right-small shaped rule (found .counted))))),
       )

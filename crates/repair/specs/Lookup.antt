@@ -19,13 +19,13 @@ pub record Linked (ws ruleFirsts heads blocks : List ℕ) : Type 0 where
   pub shaped : Shaped ws
   pub rule-firsts-size : length ruleFirsts ≡ 256
   pub rule-first : (p : ℕ) → p < ruleCount ws → FirstMask ws (rightSide ws p) (getD ruleFirsts p 0)
-  pub heads-size : length heads ≡ 64
-  pub head : (k : ℕ) → k < nonterminalCount ws → LastBefore ws (64 + k) (ruleCount ws) (getD heads k 0)
+  pub heads-size : length heads ≡ 128
+  pub head : (k : ℕ) → k < nonterminalCount ws → LastBefore ws (64 + k) (ruleCount ws) (getD heads (64 + k) 0)
   pub blocks-size : length blocks ≡ 4096
   pub block : (p : ℕ) → p < ruleCount ws → Block ws blocks p
 
-pub linked-tables : {ws : List ℕ} {null : ℕ} {firsts ruleFirsts costs heads blocks : List ℕ} → Shaped ws
-    → Tables ws null firsts ruleFirsts costs heads blocks → Linked ws ruleFirsts heads blocks
+pub linked-tables : {ws : List ℕ} {null : ℕ} {firsts ruleFirsts costs heads blocks rights : List ℕ} → Shaped ws
+    → Tables ws null firsts ruleFirsts costs heads blocks rights → Linked ws ruleFirsts heads blocks
 linked-tables s t =
     record {
       shaped = s;
@@ -61,15 +61,15 @@ module _ {ws ruleFirsts heads blocks : List ℕ} {top t : ℕ} (can : CanLookUp 
   pub rules-within : ruleCount ws ≤ 256
   rules-within = can .linked .shaped .rules-high
 
-  pub linking-head : (k link : ℕ) → k ≡ top - 64 → link ≡ getD heads k 0 → Linking ws top t link
-  linking-head k link e f =
-      let n : 64 + k ≡ top = omega (arith, can .low) in
-      let h = can .linked .head k (omega (arith, can .high)) in
-      subst (λ l. Linking ws top t l) (sym f)
+  pub linking-head : (link : ℕ) → link ≡ getD heads top 0 → Linking ws top t link
+  linking-head link f =
+      let n : 64 + (top - 64) ≡ top = omega (arith, can .low) in
+      let h = can .linked .head (top - 64) (omega (arith, can .high)) in
+      subst (λ l. Linking ws top t l) (ap (λ A. getD heads A 0) n ∙ sym f)
       (record {
         within = h .within;
         named = ⊎-elim (λ z. inl z) (λ z. inr (z ∙ n)) (h .named);
-        none = λ q l m s x. h .others q l m (s ∙ sym n);
+        none = λ q l m s x. h .others q l m (s ∙ sym n) t x;
       })
 
   -- The rule that is named belongs to the left side.
@@ -104,7 +104,7 @@ module _ {ws ruleFirsts heads blocks : List ℕ} {top t : ℕ} (can : CanLookUp 
                   (λ i.
                   let z : q ≡ link - 1 = omega arith in
                   not-in (can .linked .rule-first (link - 1) counted t (can .token) .1 (subst (λ y. First (RuleOf ws) (rightSide ws y) t) z x)))
-                  (λ i. h .others q m i (s ∙ sym left))
+                  (λ i. h .others q m i (s ∙ sym left) t x)
                   (le-or-lt (link - 1) q))
                   (le-or-lt link q);
             }),

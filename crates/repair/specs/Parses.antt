@@ -1,5 +1,5 @@
 -- The parser's answer: refusals 5 to 10 before the run, the run, and what the buffers then hold.
-use Prim.Native.Nat.{ℕ, zero, suc, _+_, _-_, _*_, _≤_, _<_}
+use Prim.Native.Nat.{ℕ, zero, suc, _+_, _-_, _*_, _≤_, _<_, min, max}
 use mathlib.Core.Path.{_≡_, refl, sym, ap, _∙_, subst}
 use mathlib.Core.Bool.{Bool, true, false}
 use mathlib.Core.List.{List, [], _∷_, _++_, append-assoc, append-nil}
@@ -29,7 +29,7 @@ use Rattle.grammar.specs.Refusals.{Lowest, Outcome, given, refused}
 use Rattle.grammar.specs.declared.Refusal.{Refusal}
 use Rattle.grammar.specs.declared.Refusal.the-variants.{BadShape, Unreachable, NoString, TooCostly, SharedPredict, BadLog}
 use Rattle.grammar.specs.theory.Good.{accepted}
-use Rattle.sets.specs.Telling.{Tells, told}
+use Rattle.sets.specs.Telling.{Tells, told, denied}
 use Rattle.stack.specs.Tests.{le-or-lt}
 use Rattle.verdict.specs.Tables.{Tables}
 use Rattle.verdict.specs.Answer.{Tabled}
@@ -42,32 +42,53 @@ use Rattle.repair.specs.declared.Parsing.the-variants as parsing
 
 -- ---- Refusal 10
 
--- The first i tokens are in range.
-pub record LogSoFar (ws log : List ℕ) (i : ℕ) : Type 0 where
-  pub low : (k : ℕ) → k < i → 1 ≤ getD log k END
-  pub high : (k : ℕ) → k < i → getD log k END < terminalCount ws
+-- The first i tokens lie between low and high, and so closely that every other bound of theirs is one of these.
+pub record Spanned (log : List ℕ) (i low high : ℕ) : Type 0 where
+  pub above : (k : ℕ) → k < i → low ≤ getD log k END
+  pub under : (k : ℕ) → k < i → getD log k END ≤ high
+  pub lowest : (b : ℕ) → b ≤ 65535 → ((k : ℕ) → k < i → b ≤ getD log k END) → b ≤ low
+  pub highest : (b : ℕ) → ((k : ℕ) → k < i → getD log k END ≤ b) → high ≤ b
 
-module _ {ws log : List ℕ} where
-  pub log-none : LogSoFar ws log 0
-  log-none = record { low = λ k l. absurd (omega arith); high = λ k l. absurd (omega arith) }
+module _ {log : List ℕ} where
+  pub spanned-none : Spanned log 0 65535 0
+  spanned-none =
+      record { above = λ k l. absurd (omega arith); under = λ k l. absurd (omega arith); lowest = λ b l f. l; highest = λ b f. omega arith }
 
-  pub log-more : (i : ℕ) → (getD log i END ≡ END → ⊥) → getD log i END < terminalCount ws → LogSoFar ws log i → LogSoFar ws log (i + 1)
-  log-more i l h w =
+  pub spanned-more : (i low high low′ high′ : ℕ) → low′ ≡ min low (getD log i END) → high′ ≡ max high (getD log i END) → Spanned log i low high
+      → Spanned log (i + 1) low′ high′
+  spanned-more i low high low′ high′ e f w =
       record {
-        low = λ k m. at (λ t. 1 ≤ t) k m (not-end (getD log i END) l) (w .low k);
-        high = λ k m. at (λ t. t < terminalCount ws) k m h (w .high k);
+        above = λ k m. at (λ t. low′ ≤ t) k m (omega arith) (λ j. omega (arith, w .above k j));
+        under = λ k m. at (λ t. t ≤ high′) k m (omega arith) (λ j. omega (arith, w .under k j));
+        lowest = λ b l g. omega (arith, w .lowest b l (λ k m. g k (omega arith)), g i (omega arith));
+        highest = λ b g. omega (arith, w .highest b (λ k m. g k (omega arith)), g i (omega arith));
       }
     where
-      not-end : (t : ℕ) → (t ≡ END → ⊥) → 1 ≤ t
-      not-end zero n = absurd (n refl)
-      not-end (suc t) n = omega arith
-
       at : (P : ℕ → Type 0) (k : ℕ) → k < i + 1 → P (getD log i END) → (k < i → P (getD log k END)) → P (getD log k END)
       at P k m here before =
           ⊎-elim (λ j. let e : i ≡ k = omega arith in subst (λ n. P (getD log n END)) e here) (λ j. before j) (le-or-lt i k)
 
-  pub log-told : (i : ℕ) → length log ≤ 4096 → length log ≤ i → LogSoFar ws log i → Tells (LogFits ws log) true
-  log-told i l m w = told (record { count = l; low = λ k h. w .low k (omega arith); high = λ k h. w .high k (omega arith) })
+module _ {ws log : List ℕ} {i low high : ℕ} (w : Spanned log i low high) (all : length log ≤ i) (exactly : i ≤ length log) where
+  -- A token is END,
+  pub log-low : low ≡ END → Tells (LogFits ws log) false
+  log-low e = denied (λ f. omega (arith, w .lowest 1 (omega arith) (λ k m. f .low k (omega arith))))
+
+  -- or no terminal;
+  pub log-high : 1 ≤ terminalCount ws → terminalCount ws ≤ high → Tells (LogFits ws log) false
+  log-high l h = denied (λ f. omega (arith, w .highest (terminalCount ws - 1) (λ k m. omega (arith, f .high k (omega arith)))))
+
+  -- or each is in range.
+  pub log-told : length log ≤ 4096 → (low ≡ END → ⊥) → high < terminalCount ws → Tells (LogFits ws log) true
+  log-told l n h =
+      told (record {
+        count = l;
+        low = λ k m. omega (arith, w .above k (omega arith), not-end low n);
+        high = λ k m. omega (arith, w .under k (omega arith));
+      })
+    where
+      not-end : (t : ℕ) → (t ≡ END → ⊥) → 1 ≤ t
+      not-end zero n = absurd (n refl)
+      not-end (suc t) n = omega arith
 
 -- ---- Before the run
 
@@ -225,18 +246,18 @@ parsed-refused editRoom ruleRoom r editBuffer ruleBuffer editsAfter rulesAfter s
 
 -- ---- The code's steps
 
-tabled-passed : {ws firsts ruleFirsts costs heads blocks : List ℕ} {j : Judgement} {null : ℕ} → Tabled ws firsts ruleFirsts costs heads blocks j
-    → j ≡ judged.Passed null → Verdict ws none × Tables ws null firsts ruleFirsts costs heads blocks
-tabled-passed {ws} {firsts} {ruleFirsts} {costs} {heads} {blocks} {null = null} (Tabled.passed {null = n} v t) e =
-    let same : n ≡ null = cc in (v, subst (λ m. Tables ws m firsts ruleFirsts costs heads blocks) same t)
+tabled-passed : {ws firsts ruleFirsts costs heads blocks rights : List ℕ} {j : Judgement} {null : ℕ} → Tabled ws firsts ruleFirsts costs heads blocks rights j
+    → j ≡ judged.Passed null → Verdict ws none × Tables ws null firsts ruleFirsts costs heads blocks rights
+tabled-passed {ws} {firsts} {ruleFirsts} {costs} {heads} {blocks} {rights} {null = null} (Tabled.passed {null = n} v t) e =
+    let same : n ≡ null = cc in (v, subst (λ m. Tables ws m firsts ruleFirsts costs heads blocks rights) same t)
 tabled-passed (Tabled.refused v) e = absurd (let z : _≡_ {A = ℕ} 0 1 = cc in omega arith)
 
-tabled-refused : {ws firsts ruleFirsts costs heads blocks : List ℕ} {j : Judgement} {r : Refusal} → Tabled ws firsts ruleFirsts costs heads blocks j
+tabled-refused : {ws firsts ruleFirsts costs heads blocks rights : List ℕ} {j : Judgement} {r : Refusal} → Tabled ws firsts ruleFirsts costs heads blocks rights j
     → j ≡ judged.Refused r → Verdict ws (some r)
 tabled-refused (Tabled.passed v t) e = absurd (let z : _≡_ {A = ℕ} 0 1 = cc in omega arith)
 tabled-refused {ws} {r = r} (Tabled.refused {r = q} v) e = let same : q ≡ r = cc in subst (λ m. Verdict ws (some m)) same v
 
-module _ {ws firsts ruleFirsts costs heads blocks : List ℕ} {j : Judgement} (t : Tabled ws firsts ruleFirsts costs heads blocks j) where
+module _ {ws firsts ruleFirsts costs heads blocks rights : List ℕ} {j : Judgement} (t : Tabled ws firsts ruleFirsts costs heads blocks rights j) where
   pub check-refuses : (log : List ℕ) (editRoom ruleRoom : ℕ) (editBuffer ruleBuffer : List ℕ) {r : Refusal} → j ≡ judged.Refused r
       → SettledAs ws log editRoom ruleRoom editBuffer ruleBuffer (parsing.Refused r)
   check-refuses log editRoom ruleRoom editBuffer ruleBuffer e =
@@ -252,7 +273,7 @@ module _ {ws firsts ruleFirsts costs heads blocks : List ℕ} {j : Judgement} (t
       log-refuses editRoom ruleRoom editBuffer ruleBuffer e =
           settled-log editRoom ruleRoom editBuffer ruleBuffer (tabled-passed t passed .0) (test .no e)
 
-      pub run-can : (stack : List ℕ) → answer ≡ true → 264 ≤ length stack → CanRun ws log null firsts ruleFirsts costs heads blocks stack
+      pub run-can : (stack : List ℕ) → answer ≡ true → 264 ≤ length stack → CanRun ws log null firsts ruleFirsts costs heads blocks rights stack
       run-can stack e l =
           let h = tabled-passed t passed in
           record { setting = record { passes = h .0; fits = test .yes e; tables = h .1 }; cells = l }

@@ -39,10 +39,10 @@ abbrev pub limitsOf : ℕ → ℕ → Limits
 limitsOf editRoom ruleRoom = record { height = 256; editRoom = editRoom; ruleRoom = ruleRoom }
 
 -- What a run works from: accepted words, a log that fits, and the tables.
-pub record Setting (ws log : List ℕ) (null : ℕ) (firsts ruleFirsts costs heads blocks : List ℕ) : Type 0 where
+pub record Setting (ws log : List ℕ) (null : ℕ) (firsts ruleFirsts costs heads blocks rights : List ℕ) : Type 0 where
   pub passes : Verdict ws none
   pub fits : LogFits ws log
-  pub tables : Tables ws null firsts ruleFirsts costs heads blocks
+  pub tables : Tables ws null firsts ruleFirsts costs heads blocks rights
 
 -- The run has come to p with the moves `done`, which are counted; their records and rule numbers stand in front in the buffers.
 pub record Reached (ws log : List ℕ) (editRoom ruleRoom : ℕ) (stack edits rules : List ℕ) (p : Parser) : Type 0 where
@@ -139,7 +139,7 @@ rest-form log place l =
     drop-cons (log ++ (END ∷ [])) place 0 (omega (arith, length-append log (END ∷ [])))
     ∙ ap₂ _∷_ (token-ended log place) (ap (λ k. drop k (log ++ (END ∷ []))) (sym e))
 
-module _ {ws log : List ℕ} {null : ℕ} {firsts ruleFirsts costs heads blocks : List ℕ} (setting : Setting ws log null firsts ruleFirsts costs heads blocks)
+module _ {ws log : List ℕ} {null : ℕ} {firsts ruleFirsts costs heads blocks rights : List ℕ} (setting : Setting ws log null firsts ruleFirsts costs heads blocks rights)
     {editRoom ruleRoom : ℕ} {stack edits rules : List ℕ} {p : Parser} (r : Reached ws log editRoom ruleRoom stack edits rules p) where
   words : Accepted ws
   words = accepted (setting .passes)

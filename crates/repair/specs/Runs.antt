@@ -13,6 +13,7 @@ use Rattle.grammar.specs.Run.{RunOf, Counts, started}
 use Rattle.grammar.specs.Refusals.{Outcome, given, refused}
 use Rattle.grammar.specs.theory.Paths.{Path}
 use Rattle.stack.specs.Pile.{pile}
+use Rattle.stack.specs.Windows.{Shows}
 use Rattle.stack.specs.declared.Parser.{Parser}
 use Rattle.search.specs.Tokens.{restOf}
 use Rattle.search.specs.Records.{wordsOf}
@@ -42,8 +43,8 @@ parsingOf (parsing.Counts moves records listed) = given (record { moves = moves;
 parsingOf (parsing.Refused r) = refused r
 
 -- What a run needs: its setting, and a stack of 264 cells.
-pub record CanRun (ws log : List ℕ) (null : ℕ) (firsts ruleFirsts costs heads blocks stack : List ℕ) : Type 0 where
-  pub setting : Setting ws log null firsts ruleFirsts costs heads blocks
+pub record CanRun (ws log : List ℕ) (null : ℕ) (firsts ruleFirsts costs heads blocks rights stack : List ℕ) : Type 0 where
+  pub setting : Setting ws log null firsts ruleFirsts costs heads blocks rights
   pub cells : 264 ≤ length stack
 
 -- The run has ended with these counts, and its records and rule numbers stand in front in the buffers.
@@ -65,10 +66,11 @@ RanOf ws log editRoom ruleRoom editBuffer ruleBuffer (parsing.Refused r) = Stopp
 
 -- ---- The loop
 
--- The run has come to p. The lengths of the buffers are those that were lent.
-pub record Runs (ws log : List ℕ) (stack₀ edits₀ rules₀ stack edits rules : List ℕ) (p : Parser) : Type 0 where
+-- The run has come to p, with a window there. The lengths of the buffers are those that were lent.
+pub record Runs (ws log : List ℕ) (stack₀ edits₀ rules₀ stack edits rules : List ℕ) (p : Parser) (window : ℕ) : Type 0 where
   pub size : length stack ≡ length stack₀
   pub reached : Reached ws log (length edits₀) (length rules₀) stack edits rules p
+  pub shows : Shows window (pile stack (p .height))
 
 begin-pile : (stack : List ℕ) → 2 ≤ length stack → pile (set (set stack 0 END) 1 START) 2 ≡ START ∷ END ∷ []
 unfolding pile
@@ -79,10 +81,10 @@ begin-pile stack l =
 
 pub runs-begin : {ws log : List ℕ} (stack edits₀ rules₀ : List ℕ) {p : Parser} → 264 ≤ length stack
     → p ≡ record { place = 0; height = 2; moves = 0; records = 0; listed = 0 }
-    → Runs ws log (set (set stack 0 END) 1 START) edits₀ rules₀ (set (set stack 0 END) 1 START) edits₀ rules₀ p
+    → Runs ws log (set (set stack 0 END) 1 START) edits₀ rules₀ (set (set stack 0 END) 1 START) edits₀ rules₀ p 0
 unfolding wordsOf edits editWords ruleNumbers
 runs-begin {ws} {log} stack edits₀ rules₀ l e =
-    subst (λ q. Runs ws log (set (set stack 0 END) 1 START) edits₀ rules₀ (set (set stack 0 END) 1 START) edits₀ rules₀ q) (sym e)
+    subst (λ q. Runs ws log (set (set stack 0 END) 1 START) edits₀ rules₀ (set (set stack 0 END) 1 START) edits₀ rules₀ q 0) (sym e)
     (record {
       size = refl;
       reached =
@@ -98,12 +100,13 @@ runs-begin {ws} {log} stack edits₀ rules₀ l e =
             edit-front = refl;
             rule-front = refl;
           };
+      shows = Shows.nothing refl;
     })
 
-module _ {ws log : List ℕ} {null : ℕ} {firsts ruleFirsts costs heads blocks : List ℕ} (setting : Setting ws log null firsts ruleFirsts costs heads blocks)
-    {stack₀ edits₀ rules₀ stack edits rules : List ℕ} {p : Parser} (r : Runs ws log stack₀ edits₀ rules₀ stack edits rules p) where
+module _ {ws log : List ℕ} {null : ℕ} {firsts ruleFirsts costs heads blocks rights : List ℕ} (setting : Setting ws log null firsts ruleFirsts costs heads blocks rights)
+    {stack₀ edits₀ rules₀ stack edits rules : List ℕ} {p : Parser} {window : ℕ} (r : Runs ws log stack₀ edits₀ rules₀ stack edits rules p window) where
   -- What a turn needs.
-  pub turn-can : 0 < p .height → CanTurn ws log null firsts ruleFirsts costs heads blocks stack edits rules p
+  pub turn-can : 0 < p .height → CanTurn ws log null firsts ruleFirsts costs heads blocks rights stack edits rules p window
   turn-can l =
       record {
         setting = setting;
@@ -111,6 +114,7 @@ module _ {ws log : List ℕ} {null : ℕ} {firsts ruleFirsts costs heads blocks 
             subst (λ n. Reached ws log n (length rules) stack edits rules p) (sym (r .reached .edit-room))
             (subst (λ n. Reached ws log (length edits₀) n stack edits rules p) (sym (r .reached .rule-room)) (r .reached));
         some = l;
+        shows = r .shows;
       }
 
   as-lent : (stack′ edits′ rules′ : List ℕ) (turn : Turned) → TurnOf ws log (length edits) (length rules) (p .moves) stack′ edits′ rules′ turn
@@ -119,13 +123,13 @@ module _ {ws log : List ℕ} {null : ℕ} {firsts ruleFirsts costs heads blocks 
       subst (λ n. TurnOf ws log n (length rules₀) (p .moves) stack′ edits′ rules′ turn) (r .reached .edit-room)
       (subst (λ n. TurnOf ws log (length edits) n (p .moves) stack′ edits′ rules′ turn) (r .reached .rule-room) t)
 
-  pub runs-on : (stack′ edits′ rules′ : List ℕ) {turn : Turned} {q : Parser}
-      → TurnOf ws log (length edits) (length rules) (p .moves) stack′ edits′ rules′ turn → turn ≡ On q → length stack′ ≡ length stack
-      → Runs ws log stack₀ edits₀ rules₀ stack′ edits′ rules′ q × (p .moves < q .moves) × (q .moves ≤ 2101250)
+  pub runs-on : (stack′ edits′ rules′ : List ℕ) {turn : Turned} {q : Parser} {v : ℕ}
+      → TurnOf ws log (length edits) (length rules) (p .moves) stack′ edits′ rules′ turn → turn ≡ On q v → length stack′ ≡ length stack
+      → Runs ws log stack₀ edits₀ rules₀ stack′ edits′ rules′ q v × (p .moves < q .moves) × (q .moves ≤ 2101250)
   unfolding TurnOf
   runs-on stack′ edits′ rules′ {turn} {q} t e k =
       let h = subst (λ x. TurnOf ws log (length edits₀) (length rules₀) (p .moves) stack′ edits′ rules′ x) e (as-lent stack′ edits′ rules′ turn t) in
-      (record { size = k ∙ r .size; reached = h .0 }, h .1, moves-low setting (h .0))
+      (record { size = k ∙ r .size; reached = h .0; shows = h .2 }, h .1, moves-low setting (h .0))
 
   pub runs-refused : (stack′ edits′ rules′ : List ℕ) {turn : Turned} {n : Rattle.grammar.specs.declared.Refusal.Refusal}
       → TurnOf ws log (length edits) (length rules) (p .moves) stack′ edits′ rules′ turn → turn ≡ Refused n

@@ -160,7 +160,7 @@ module _ {ws log : List ℕ} {editRoom ruleRoom : ℕ} {stack edits rules : List
 
 -- ---- The drops on the way down
 
-module _ {ws log : List ℕ} {null : ℕ} {firsts ruleFirsts costs heads blocks : List ℕ} (setting : Setting ws log null firsts ruleFirsts costs heads blocks)
+module _ {ws log : List ℕ} {null : ℕ} {firsts ruleFirsts costs heads blocks rights : List ℕ} (setting : Setting ws log null firsts ruleFirsts costs heads blocks rights)
     {editRoom ruleRoom : ℕ} {stack edits rules : List ℕ} where
   drops : (n : ℕ) (p d : Parser) → p .height ≡ d .height + n → Reached ws log editRoom ruleRoom stack edits rules p → Dropped p d
       → Passed null firsts stack (getD log (p .place) 0) (p .height) (d .height) → 0 < d .height

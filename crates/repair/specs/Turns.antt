@@ -1,5 +1,5 @@
 -- A turn of the run: the drops for the current token with the match or the expand that they lead to, or a correction.
-use Prim.Native.Nat.{ℕ, zero, suc, _+_, _-_, _*_, _≤_, _<_, _^_}
+use Prim.Native.Nat.{ℕ, zero, suc, _+_, _-_, _*_, _/_, _≤_, _<_, _^_}
 use mathlib.Core.Path.{_≡_, refl, sym, ap, _∙_, subst}
 use mathlib.Core.Bool.{Bool, true}
 use mathlib.Core.List.{List, [], _∷_, _++_}
@@ -15,6 +15,7 @@ use Rattle.grammar.specs.declared.Refusal.the-variants.{NoRoom}
 use Rattle.grammar.specs.theory.Reach.{first-append}
 use Rattle.stack.specs.Tests.{beginsBy}
 use Rattle.stack.specs.Pile.{pile, pile-top, pile-at}
+use Rattle.stack.specs.Windows.{Shows, seen-below}
 use Rattle.stack.specs.Ways.{CanDescend, Passed, Dropped, Fitting, Sticking, WayOf}
 use Rattle.stack.specs.declared.Parser.{Parser}
 use Rattle.stack.specs.declared.Way.{Way}
@@ -36,14 +37,17 @@ use Rattle.repair.specs.declared.Turned.the-variants.{On, Refused}
 
 -- ---- The contract
 
-pub record CanTurn (ws log : List ℕ) (null : ℕ) (firsts ruleFirsts costs heads blocks stack edits rules : List ℕ) (p : Parser) : Type 0 where
-  pub setting : Setting ws log null firsts ruleFirsts costs heads blocks
+pub record CanTurn (ws log : List ℕ) (null : ℕ) (firsts ruleFirsts costs heads blocks rights stack edits rules : List ℕ) (p : Parser) (window : ℕ)
+    : Type 0 where
+  pub setting : Setting ws log null firsts ruleFirsts costs heads blocks rights
   pub reached : Reached ws log (length edits) (length rules) stack edits rules p
   pub some : 0 < p .height
+  pub shows : Shows window (pile stack (p .height))
 
--- The run has come further, by at least one move; or it is refused.
+-- The run has come further, by at least one move, with a window there; or it is refused.
 unfoldable pub TurnOf : List ℕ → List ℕ → ℕ → ℕ → ℕ → List ℕ → List ℕ → List ℕ → Turned → Type 0
-TurnOf ws log editRoom ruleRoom moves stack edits rules (On q) = Reached ws log editRoom ruleRoom stack edits rules q × (moves < q .moves)
+TurnOf ws log editRoom ruleRoom moves stack edits rules (On q window) =
+    Reached ws log editRoom ruleRoom stack edits rules q × (moves < q .moves) × Shows window (pile stack (q .height))
 TurnOf ws log editRoom ruleRoom moves stack edits rules (Refused r) = Stopped ws log editRoom ruleRoom r
 
 -- A rule for a token is one for the token that it is.
@@ -56,15 +60,15 @@ begins-terminal : (firsts : List ℕ) (x t : ℕ) → x < 64 → beginsBy firsts
 unfolding beginsBy
 begins-terminal firsts x t l b = eqb-true x t (rw (lt-ltb x 64 l) at b)
 
-module _ {ws log : List ℕ} {null : ℕ} {firsts ruleFirsts costs heads blocks stack edits rules : List ℕ} {p : Parser}
-    (can : CanTurn ws log null firsts ruleFirsts costs heads blocks stack edits rules p) (t : ℕ) (current : t ≡ getD log (p .place) 0) where
+module _ {ws log : List ℕ} {null : ℕ} {firsts ruleFirsts costs heads blocks rights stack edits rules : List ℕ} {p : Parser} {window : ℕ}
+    (can : CanTurn ws log null firsts ruleFirsts costs heads blocks rights stack edits rules p window) (t : ℕ) (current : t ≡ getD log (p .place) 0) where
   now-running : Running ws log stack p
   now-running = running (can .setting) (can .reached) (can .some)
 
   token : Terminal t
   token = omega (arith, current, token-terminal (shaped (can .setting) (can .reached)) (can .setting .fits) (p .place))
 
-  pub descend-can : CanDescend firsts stack p t
+  pub descend-can : CanDescend firsts stack p window t
   descend-can =
       record {
         token = token;
@@ -73,6 +77,7 @@ module _ {ws log : List ℕ} {null : ℕ} {firsts ruleFirsts costs heads blocks 
         symbols = λ i l.
             inner-low (shaped (can .setting) (can .reached)) (pile-cell stack (p .height) (now-running .symbols) i l);
         room = omega (arith, height-low (can .setting) (can .reached), moves-low (can .setting) (can .reached));
+        shows = can .shows;
       }
 
   -- ---- The token comes to a symbol that it begins
@@ -96,15 +101,17 @@ module _ {ws log : List ℕ} {null : ℕ} {firsts ruleFirsts costs heads blocks 
   place-within : {d : Parser} → Fitting null firsts stack t p d → d .place ≤ length log
   place-within w = omega (arith, w .dropped .place, now-running .place)
 
-  fits-told : {way : Way} {d : Parser} → WayOf null firsts stack t p way → way ≡ Fits d → Fitting null firsts stack t p d × (getD stack (d .height - 1) 0 < 64)
+  fits-told : {way : Way} {d : Parser} {w : ℕ} → WayOf null firsts stack t p way → way ≡ Fits d w
+      → Fitting null firsts stack t p d × (getD stack (d .height - 1) 0 < 64) × Shows w (pile stack (d .height))
   unfolding WayOf
   fits-told w e = subst (λ x. WayOf null firsts stack t p x) e w
 
-  grows-told : {way : Way} {d : Parser} → WayOf null firsts stack t p way → way ≡ Grows d → Fitting null firsts stack t p d × (64 ≤ getD stack (d .height - 1) 0)
+  grows-told : {way : Way} {d : Parser} {top : ℕ} → WayOf null firsts stack t p way → way ≡ Grows d top
+      → Fitting null firsts stack t p d × (64 ≤ getD stack (d .height - 1) 0) × (top ≡ getD stack (d .height - 1) 0)
   unfolding WayOf
   grows-told w e = subst (λ x. WayOf null firsts stack t p x) e w
 
-  pub match-can : {way : Way} {d : Parser} → WayOf null firsts stack t p way → way ≡ Fits d
+  pub match-can : {way : Way} {d : Parser} {w : ℕ} → WayOf null firsts stack t p way → way ≡ Fits d w
       → (1 ≤ d .height) × (d .place + 1 < 2 ^ 64) × (d .moves + 1 < 2 ^ 64)
   match-can w e =
       let f = fits-told w e .0 in (
@@ -113,23 +120,24 @@ module _ {ws log : List ℕ} {null : ℕ} {firsts ruleFirsts costs heads blocks 
         omega (arith, moves-low (can .setting) (down f)),
       )
 
-  pub turn-match : {way : Way} {d q : Parser} → WayOf null firsts stack t p way → way ≡ Fits d → q ≡ oneMatch d
-      → TurnOf ws log (length edits) (length rules) (p .moves) stack edits rules (On q)
+  pub turn-match : {way : Way} {d q : Parser} {w v : ℕ} → WayOf null firsts stack t p way → way ≡ Fits d w → q ≡ oneMatch d → v ≡ w / 256
+      → TurnOf ws log (length edits) (length rules) (p .moves) stack edits rules (On q v)
   unfolding TurnOf
-  turn-match {way} {d} {q} w e f =
-      let h = fits-told w e in
+  turn-match {way} {d} {q} {w} {v} y e f g =
+      let h = fits-told y e in
       let fit = h .0 in
-      subst (λ x. Reached ws log (length edits) (length rules) stack edits rules x × (p .moves < x .moves)) (sym f) (
+      subst (λ x. Reached ws log (length edits) (length rules) stack edits rules x × (p .moves < x .moves) × Shows v (pile stack (x .height))) (sym f) (
         reached-match (down fit) (fit .some) (place-within fit)
             (begins-terminal firsts (getD stack (d .height - 1) 0) t (h .1) (fit .begins) ∙ place-same fit),
         omega (arith, fit .dropped .moves, fit .passed .within),
+        subst (λ x. Shows x (pile stack (d .height - 1))) (sym g) (seen-below stack (d .height) w (fit .some) (h .2)),
       )
 
   -- ---- It grows by a rule
 
-  pub expand-can : {way : Way} {d : Parser} → WayOf null firsts stack t p way → way ≡ Grows d
-      → CanExpand ws ruleFirsts heads blocks stack rules d t
-  expand-can {way} {d} w e =
+  pub expand-can : {way : Way} {d : Parser} {top : ℕ} → WayOf null firsts stack t p way → way ≡ Grows d top
+      → CanExpand ws ruleFirsts heads blocks rights stack rules d top t
+  expand-can {way} {d} {top} w e =
       let h = grows-told w e in
       let fit = h .0 in
       let r = down fit in
@@ -138,26 +146,30 @@ module _ {ws log : List ℕ} {null : ℕ} {firsts ruleFirsts costs heads blocks 
         some = fit .some;
         height = height-low (can .setting) r;
         cells = r .cells;
+        on-top = h .2;
         look-up =
             record {
               linked = linked-tables (shaped (can .setting) (can .reached)) (can .setting .tables);
-              low = h .1;
-              high = ⊎-elim (λ l. absurd (omega (arith, h .1, l))) (λ k. k .1) inner;
+              low = omega (arith, h .1, h .2);
+              high = ⊎-elim (λ l. absurd (omega (arith, h .1, l))) (λ k. omega (arith, k .1, h .2)) inner;
               token = token;
-              first = top-first fit;
+              first = subst (λ x. First (RuleOf ws) (x ∷ []) t) (sym (h .2)) (top-first fit);
             };
+        rights-size = can .setting .tables .rights-size;
+        right = can .setting .tables .right;
         room = omega (arith, moves-low (can .setting) r);
       }
 
-  pub turn-expand : {way : Way} {d : Parser} (stack′ rules′ : List ℕ) (turn : Turned) → WayOf null firsts stack t p way → way ≡ Grows d
+  pub turn-expand : {way : Way} {d : Parser} {top : ℕ} (stack′ rules′ : List ℕ) (turn : Turned) → WayOf null firsts stack t p way → way ≡ Grows d top
       → ExpandedOf ws stack rules d t stack′ rules′ turn
       → TurnOf ws log (length edits) (length rules) (p .moves) stack′ edits rules′ turn
   unfolding TurnOf ExpandedOf ruled-as
-  turn-expand {way} {d} stack′ rules′ (On q) w e x =
+  turn-expand {way} {d} stack′ rules′ (On q window) w e x =
       let fit = grows-told w e .0 in
       let u = ruled-as (place-same fit) (x .0) in (
         reached-expand (down fit) (fit .some) (place-within fit) u (x .1) (x .2),
         omega (arith, fit .dropped .moves, fit .passed .within, x .2 .moves),
+        x .3,
       )
   turn-expand {way} {d} stack′ rules′ (Refused n) w e x =
       let fit = grows-told w e .0 in
@@ -218,13 +230,14 @@ module _ {ws log : List ℕ} {null : ℕ} {firsts ruleFirsts costs heads blocks 
 
   pub turn-correct : {way : Way} {found : Corrected} {q : Parser} (edits′ : List ℕ) → WayOf null firsts stack t p way → way ≡ Stuck
       → CorrectedOf ws log stack edits p edits′ found → found ≡ corrected.On q
-      → TurnOf ws log (length edits) (length rules) (p .moves) stack edits′ rules (On q)
+      → TurnOf ws log (length edits) (length rules) (p .moves) stack edits′ rules (On q 0)
   unfolding TurnOf CorrectedOf
   turn-correct {way} {found} {q} edits′ w e x f =
       let y = subst (λ z. CorrectedOf ws log stack edits p edits′ z) f x in
       let error = in-error w e in (
         reached-correct (can .reached) (can .some) (now-running .place) error (y .0) (y .1),
         omega (arith, y .1 .moves, some-move (y .0) error),
+        Shows.nothing refl,
       )
 
   pub turn-full : {way : Way} {found : Corrected} (edits′ : List ℕ) → WayOf null firsts stack t p way → way ≡ Stuck

@@ -1,7 +1,7 @@
 // The repairing parser: document 01, "Moves", and refusals 11 and 12. The stack, the edits and the rules are slices beside a
 // state of numbers; the tables are those of the grammar check.
 ghost use mathlib.Core.Path.{_≡_};
-ghost use Prim.Native.Nat.{_+_, _-_, _*_, _≤_, _<_};
+ghost use Prim.Native.Nat.{_+_, _-_, _*_, _≤_, _<_, min, max};
 ghost use lib.ListN.{length, take};
 ghost use Rattle.repair.specs.Lookup.{CanLookUp, RuleFor};
 ghost use Rattle.repair.specs.Expanding.{CanExpand, ExpandedOf};
@@ -24,16 +24,17 @@ pub enum Parsing {
     Refused(Refusal),
 }
 
-// The state behind a turn of the run, or the refusal that it meets.
+// The state behind a turn of the run with the window there, or the refusal that it meets.
 enum Turned {
-    On(Parser),
+    On(Parser, u64),
     Refused(Refusal),
 }
 
 // Runs the log by the grammar words, which are checked first, and leaves its edit records and rule numbers in the two lent
 // buffers; or gives the lowest refusal of 5 to 10 that applies, or the one of 11 and 12 that the run meets.
 pub fn parse(words: &[u16], log: &[u16], edits: &mut [u16], rules: &mut [u16]) -> Parsing
-    ensures { λ r. ⌜ Parsed (now (words .entry)) (now (log .entry)) (length (now (edits .entry))) (length (now (rules .entry))) (parsingOf r) (now (edits .exit)) (now (rules .exit)) ⌝ }
+    ensures { λ r. ⌜ Parsed (now (words .entry)) (now (log .entry)) (length (now (edits .entry))) (length (now (rules .entry)))
+        (parsingOf r) (now (edits .exit)) (now (rules .exit)) ⌝ }
 {
     let answer = settle(words, log, edits, rules);
     match answer {
@@ -52,13 +53,15 @@ pub fn parse(words: &[u16], log: &[u16], edits: &mut [u16], rules: &mut [u16]) -
 
 // The check and its tables, the log's test and the run. The buffers are not cleared yet.
 fn settle(words: &[u16], log: &[u16], edits: &mut [u16], rules: &mut [u16]) -> Parsing
-    ensures { λ r. ⌜ SettledAs (now (words .entry)) (now (log .entry)) (length (now (edits .entry))) (length (now (rules .entry))) (now (edits .exit)) (now (rules .exit)) r ⌝ }
+    ensures { λ r. ⌜ SettledAs (now (words .entry)) (now (log .entry)) (length (now (edits .entry)))
+        (length (now (rules .entry))) (now (edits .exit)) (now (rules .exit)) r ⌝ }
 {
     let mut firsts = [0u64; 64];
     let mut rule_firsts = [0u64; 256];
     let mut costs = [0u32; 128];
-    let mut heads = [0u16; 64];
+    let mut heads = [0u16; 128];
     let mut blocks = [0u16; 4096];
+    let mut rights = [0u64; 256];
     let judgement = verdict::tables(
         words,
         &mut firsts,
@@ -66,6 +69,7 @@ fn settle(words: &[u16], log: &[u16], edits: &mut [u16], rules: &mut [u16]) -> P
         &mut costs,
         &mut heads,
         &mut blocks,
+        &mut rights,
     );
     match judgement {
         Judgement::Passed(null) => {
@@ -82,6 +86,7 @@ fn settle(words: &[u16], log: &[u16], edits: &mut [u16], rules: &mut [u16]) -> P
                 &costs,
                 &heads,
                 &blocks,
+                &rights,
                 &mut stack,
                 edits,
                 rules,
@@ -109,7 +114,7 @@ fn rule_for(
     requires { ⌜ CanLookUp (now words) (now «rule_firsts») (now heads) (now blocks) top t ⌝ }
     ensures { λ r. ⌜ RuleFor (now (words .entry)) top t r ⌝ }
 {
-    let mut link = stack::wide(heads[stack::wide(top - 64)]);
+    let mut link = stack::wide(heads[stack::wide(top)]);
     while 0 < link {
         let p = link - 1;
         if sets::has(rule_firsts[p], t) {
@@ -126,16 +131,19 @@ fn expand(
     rule_firsts: &[u64],
     heads: &[u16],
     blocks: &[u16],
+    rights: &[u64],
     stack: &mut [u16],
     rules: &mut [u16],
     d: Parser,
+    top: u16,
     t: u16,
 ) -> Turned
-    requires { ⌜ CanExpand (now words) (now «rule_firsts») (now heads) (now blocks) (now stack) (now rules) d t ⌝ }
-    ensures { λ r. ⌜ ExpandedOf (now (words .entry)) (now (stack .entry)) (now (rules .entry)) d t (now (stack .exit)) (now (rules .exit)) r ⌝ }
+    requires { ⌜ CanExpand (now words) (now «rule_firsts») (now heads) (now blocks) (now rights) (now stack) (now rules) d top t ⌝ }
+    ensures { λ r. ⌜ ExpandedOf (now (words .entry)) (now (stack .entry)) (now (rules .entry)) d t (now (stack .exit))
+        (now (rules .exit)) r ⌝ }
 {
     let at = d.height - 1;
-    let rule = rule_for(words, rule_firsts, heads, blocks, stack[at], t);
+    let rule = rule_for(words, rule_firsts, heads, blocks, top, t);
     let size = stack::wide(blocks[16 * rule + SIZE]);
     if 256 < at + size {
         return Turned::Refused(Refusal::StackFull);
@@ -146,7 +154,8 @@ fn expand(
     }
     rules[listed] = rule as u16;
     stack::push(blocks, 16 * rule, stack, at);
-    Turned::On(d.expanded(size))
+    let window = rights[rule];
+    Turned::On(d.expanded(size), window)
 }
 
 // One turn: the drops for the current token and the match or the expand that they lead to, or a correction.
@@ -159,23 +168,40 @@ fn turn(
     costs: &[u32],
     heads: &[u16],
     blocks: &[u16],
+    rights: &[u64],
     stack: &mut [u16],
     edits: &mut [u16],
     rules: &mut [u16],
     p: Parser,
+    window: u64,
 ) -> Turned
-    requires { ⌜ CanTurn (now words) (now log) null (now firsts) (now «rule_firsts») (now costs) (now heads) (now blocks) (now stack) (now edits) (now rules) p ⌝ }
-    ensures { λ r. ⌜ TurnOf (now (words .entry)) (now (log .entry)) (length (now (edits .entry))) (length (now (rules .entry))) (p .moves) (now (stack .exit)) (now (edits .exit)) (now (rules .exit)) r ⌝ }
+    requires { ⌜ CanTurn (now words) (now log) null (now firsts) (now «rule_firsts») (now costs) (now heads) (now blocks)
+        (now rights) (now stack) (now edits) (now rules) p window ⌝ }
+    ensures { λ r. ⌜ TurnOf (now (words .entry)) (now (log .entry)) (length (now (edits .entry))) (length (now (rules .entry)))
+        (p .moves) (now (stack .exit)) (now (edits .exit)) (now (rules .exit)) r ⌝ }
 {
     let t = search::token_at(log, p.place);
-    let way = stack::descend(null, firsts, stack, p, t);
+    let way = stack::descend(null, firsts, stack, p, window, t);
     match way {
-        Way::Fits(d) => Turned::On(d.matched()),
-        Way::Grows(d) => expand(words, rule_firsts, heads, blocks, stack, rules, d, t),
+        Way::Fits(d, w) => Turned::On(d.matched(), stack::below(w)),
+        Way::Grows(d, top) => {
+            expand(
+                words,
+                rule_firsts,
+                heads,
+                blocks,
+                rights,
+                stack,
+                rules,
+                d,
+                top,
+                t,
+            )
+        }
         Way::Stuck => {
             let corrected = search::correct(words, log, firsts, costs, stack, edits, p);
             match corrected {
-                Corrected::On(q) => Turned::On(q),
+                Corrected::On(q) => Turned::On(q, 0),
                 Corrected::Full => Turned::Refused(Refusal::NoRoom),
             }
         }
@@ -192,16 +218,20 @@ pub fn run(
     costs: &[u32],
     heads: &[u16],
     blocks: &[u16],
+    rights: &[u64],
     stack: &mut [u16],
     edits: &mut [u16],
     rules: &mut [u16],
 ) -> Parsing
-    requires { ⌜ CanRun (now words) (now log) null (now firsts) (now «rule_firsts») (now costs) (now heads) (now blocks) (now stack) ⌝ }
-    ensures { λ r. ⌜ RanOf (now (words .entry)) (now (log .entry)) (length (now (edits .entry))) (length (now (rules .entry))) (now (edits .exit)) (now (rules .exit)) r ⌝ }
+    requires { ⌜ CanRun (now words) (now log) null (now firsts) (now «rule_firsts») (now costs) (now heads) (now blocks)
+        (now rights) (now stack) ⌝ }
+    ensures { λ r. ⌜ RanOf (now (words .entry)) (now (log .entry)) (length (now (edits .entry))) (length (now (rules .entry)))
+        (now (edits .exit)) (now (rules .exit)) r ⌝ }
 {
     stack[0] = 0;
     stack[1] = 64;
     let mut p = Parser::new();
+    let mut window = 0u64;
     while 0 < p.height {
         let turned = turn(
             words,
@@ -212,13 +242,18 @@ pub fn run(
             costs,
             heads,
             blocks,
+            rights,
             stack,
             edits,
             rules,
             p,
+            window,
         );
         match turned {
-            Turned::On(q) => p = q,
+            Turned::On(q, w) => {
+                p = q;
+                window = w;
+            }
             Turned::Refused(r) => return Parsing::Refused(r),
         }
     }
@@ -227,7 +262,7 @@ pub fn run(
 
 // ---- Before the run, and behind it
 
-// Refusal 10: "over 4,096 tokens, a token outside 1..T-1".
+// Refusal 10: "over 4,096 tokens, a token outside 1..T-1". The least and the largest token are found without a branch for each.
 fn log_fits(words: &[u16], log: &[u16]) -> bool
     requires { ⌜ Shaped (now words) ⌝ }
     ensures { λ r. ⌜ Tells (LogFits (now (words .entry)) (now (log .entry))) r ⌝ }
@@ -235,19 +270,34 @@ fn log_fits(words: &[u16], log: &[u16]) -> bool
     if 4096 < log.len() {
         return false;
     }
-    let terminals = words[0];
+    let mut low: u16 = 65535;
+    let mut high: u16 = 0;
     let mut i = 0;
     while i < log.len() {
         let t = log[i];
-        if t == 0 {
-            return false;
-        }
-        if terminals <= t {
-            return false;
-        }
+        low = lesser(low, t);
+        high = greater(high, t);
         i += 1;
     }
+    if low == 0 {
+        return false;
+    }
+    if words[0] <= high {
+        return false;
+    }
     true
+}
+
+fn lesser(a: u16, b: u16) -> u16
+    ensures { λ r. ⌜ r ≡ min a b ⌝ }
+{
+    if a < b { a } else { b }
+}
+
+fn greater(a: u16, b: u16) -> u16
+    ensures { λ r. ⌜ r ≡ max a b ⌝ }
+{
+    if a < b { b } else { a }
 }
 
 // Makes every word from a place on zero: each word of a lent buffer is cleared once or written.

@@ -28,8 +28,8 @@ pub record Known (ws firsts costs : List ℕ) : Type 0 where
   pub cost : (X : ℕ) → Inner ws X → SymbolCost (RuleOf ws) (insertCost ws) X (getD costs X 0)
   pub cost-limit : (X : ℕ) → getD costs X 0 ≤ 60000
 
-pub known-tables : {ws : List ℕ} {null : ℕ} {firsts ruleFirsts costs heads blocks : List ℕ} → Shaped ws
-    → Tables ws null firsts ruleFirsts costs heads blocks → Known ws firsts costs
+pub known-tables : {ws : List ℕ} {null : ℕ} {firsts ruleFirsts costs heads blocks rights : List ℕ} → Shaped ws
+    → Tables ws null firsts ruleFirsts costs heads blocks rights → Known ws firsts costs
 known-tables s t =
     record {
       shaped = s;

@@ -115,7 +115,8 @@ pub fn correct(
     p: Parser,
 ) -> Corrected
     requires { ⌜ CanCorrect (now words) (now log) (now firsts) (now costs) (now stack) p ⌝ }
-    ensures { λ r. ⌜ CorrectedOf (now (words .entry)) (now (log .entry)) (now (stack .entry)) (now (edits .entry)) p (now (edits .exit)) r ⌝ }
+    ensures { λ r. ⌜ CorrectedOf (now (words .entry)) (now (log .entry)) (now (stack .entry)) (now (edits .entry)) p
+        (now (edits .exit)) r ⌝ }
 {
     let mut q = p;
     loop {

@@ -1,4 +1,5 @@
 pub mod Pile
+pub mod Windows
 pub mod Tests
 pub mod Ways
 pub mod Push

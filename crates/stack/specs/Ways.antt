@@ -1,11 +1,13 @@
 -- How a token goes down the stack: what can be empty and does not begin with it is dropped.
-use Prim.Native.Nat.{ℕ, _+_, _-_, _≤_, _<_, _^_}
-use mathlib.Core.Path.{_≡_, refl, sym, _∙_, subst}
+use Prim.Native.Nat.{ℕ, _+_, _-_, _/_, _≤_, _<_, _^_}
+use mathlib.Core.Path.{_≡_, refl, sym, ap, _∙_, subst}
 use native.Mathlib.Omega.{arith}
 use mathlib.Core.Bool.{Bool, true, false}
 use mathlib.Core.List.{List}
 use mathlib.Core.Logic.{_⊎_, inl, inr, ⊎-elim}
 use lib.ListN.{length, getD}
+use Rattle.stack.specs.Pile.{pile}
+use Rattle.stack.specs.Windows.{Shows, CanSee, seen-below}
 use Rattle.stack.specs.Tests.{beginsBy, emptyBy, Told, terminal-not-empty, le-or-lt}
 use Rattle.stack.specs.declared.Pick.the-variants.{Match, Expand, Drop, Error}
 use Rattle.stack.specs.declared.Parser.{Parser}
@@ -13,12 +15,13 @@ use Rattle.stack.specs.declared.Way.{Way}
 use Rattle.stack.specs.declared.Way.the-variants.{Fits, Grows, Stuck}
 
 -- What going down needs: a token, symbols, and room to count.
-pub record CanDescend (firsts stack : List ℕ) (p : Parser) (t : ℕ) : Type 0 where
+pub record CanDescend (firsts stack : List ℕ) (p : Parser) (window t : ℕ) : Type 0 where
   pub token : t < 64
   pub table : 64 ≤ length firsts
   pub height : p .height ≤ length stack
   pub symbols : (i : ℕ) → i < p .height → getD stack i 0 < 128
   pub room : p .moves + p .height < 2 ^ 64
+  pub shows : Shows window (pile stack (p .height))
 
 -- The cells from e up to h can be empty, and the token is in FIRST of none.
 pub record Passed (null : ℕ) (firsts stack : List ℕ) (t h e : ℕ) : Type 0 where
@@ -47,9 +50,12 @@ pub record Sticking (null : ℕ) (firsts stack : List ℕ) (t : ℕ) (p : Parser
   pub stops : (height ≡ 0)
       ⊎ ((beginsBy firsts (getD stack (height - 1) 0) t ≡ false) × (emptyBy null (getD stack (height - 1) 0) ≡ false))
 
+-- With the state behind the drops come the window there, or the top that grows.
 unfoldable pub WayOf : ℕ → List ℕ → List ℕ → ℕ → Parser → Way → Type 0
-WayOf null firsts stack t p (Fits d) = Fitting null firsts stack t p d × (getD stack (d .height - 1) 0 < 64)
-WayOf null firsts stack t p (Grows d) = Fitting null firsts stack t p d × (64 ≤ getD stack (d .height - 1) 0)
+WayOf null firsts stack t p (Fits d window) =
+    Fitting null firsts stack t p d × (getD stack (d .height - 1) 0 < 64) × Shows window (pile stack (d .height))
+WayOf null firsts stack t p (Grows d top) =
+    Fitting null firsts stack t p d × (64 ≤ getD stack (d .height - 1) 0) × (top ≡ getD stack (d .height - 1) 0)
 WayOf null firsts stack t p Stuck = Sticking null firsts stack t p
 
 -- ---- Going down, cell by cell
@@ -83,51 +89,64 @@ pub dropped-more : (p d : Parser) → 0 < d .height → Dropped p d → Dropped 
 dropped-more p d l h = record { place = h .place; moves = omega (arith, h .moves); records = h .records; listed = h .listed }
 
 -- The invariant of going down.
-pub record Going (null : ℕ) (firsts stack : List ℕ) (t : ℕ) (p d : Parser) : Type 0 where
+pub record Going (null : ℕ) (firsts stack : List ℕ) (t : ℕ) (p d : Parser) (window : ℕ) : Type 0 where
   pub passed : Passed null firsts stack t (p .height) (d .height)
   pub dropped : Dropped p d
+  pub shows : Shows window (pile stack (d .height))
+
+pub going-sees : {null : ℕ} {firsts stack : List ℕ} {t : ℕ} {p d : Parser} {window : ℕ} → p .height ≤ length stack → 0 < d .height
+    → Going null firsts stack t p d window → CanSee stack (d .height) window
+going-sees l k inv = record { some = k; cells = omega (arith, inv .passed .within); shows = inv .shows }
 
 module _ (null : ℕ) (firsts stack : List ℕ) (t : ℕ) (p : Parser) where
-  pub going-none : Going null firsts stack t p p
-  going-none = record { passed = passed-none null firsts stack t (p .height); dropped = dropped-none p }
+  pub going-none : (window : ℕ) → Shows window (pile stack (p .height)) → Going null firsts stack t p p window
+  going-none window s = record { passed = passed-none null firsts stack t (p .height); dropped = dropped-none p; shows = s }
 
-  pub going-more : (d q : Parser) → q ≡ oneDrop d → 0 < d .height → (b e : Bool) → b ≡ beginsBy firsts (getD stack (d .height - 1) 0) t
-      → e ≡ emptyBy null (getD stack (d .height - 1) 0) → Told (getD stack (d .height - 1) 0) b e Drop
-      → Going null firsts stack t p d → Going null firsts stack t p q
-  unfolding Told
-  going-more d q r l b e f g told inv =
-      subst (λ x. Going null firsts stack t p x) (sym r)
-      (record {
-        passed = passed-more null firsts stack t (p .height) (d .height) l (sym f ∙ told .0) (sym g ∙ told .1) (inv .passed);
-        dropped = dropped-more p d l (inv .dropped);
-      })
+  -- What was tested of the top was tested of the cell.
+  module _ (d : Parser) (window : ℕ) (inv : Going null firsts stack t p d window) (x : ℕ) (top : x ≡ getD stack (d .height - 1) 0) (b e : Bool)
+      (begins : b ≡ beginsBy firsts x t) where
+    cell-begins : (c : Bool) → b ≡ c → beginsBy firsts (getD stack (d .height - 1) 0) t ≡ c
+    cell-begins c f = ap (λ y. beginsBy firsts y t) (sym top) ∙ sym begins ∙ f
 
-  pub ends-fits : (d : Parser) → 0 < d .height → (b e : Bool) → b ≡ beginsBy firsts (getD stack (d .height - 1) 0) t
-      → Told (getD stack (d .height - 1) 0) b e Match → Going null firsts stack t p d → WayOf null firsts stack t p (Fits d)
-  unfolding Told WayOf
-  ends-fits d l b e f told inv =
-      (record { passed = inv .passed; dropped = inv .dropped; some = l; begins = sym f ∙ told .0 }, told .1)
+    cell-empty : e ≡ emptyBy null x → (c : Bool) → e ≡ c → emptyBy null (getD stack (d .height - 1) 0) ≡ c
+    cell-empty g c f = ap (λ y. emptyBy null y) (sym top) ∙ sym g ∙ f
 
-  pub ends-grows : (d : Parser) → 0 < d .height → (b e : Bool) → b ≡ beginsBy firsts (getD stack (d .height - 1) 0) t
-      → Told (getD stack (d .height - 1) 0) b e Expand → Going null firsts stack t p d → WayOf null firsts stack t p (Grows d)
-  unfolding Told WayOf
-  ends-grows d l b e f told inv =
-      (record { passed = inv .passed; dropped = inv .dropped; some = l; begins = sym f ∙ told .0 }, told .1)
+    pub going-more : (q : Parser) (v : ℕ) → q ≡ oneDrop d → v ≡ window / 256 → 0 < d .height → e ≡ emptyBy null x → Told x b e Drop
+        → Going null firsts stack t p q v
+    unfolding Told
+    going-more q v r s l g told =
+        subst (λ y. Going null firsts stack t p y v) (sym r)
+        (record {
+          passed = passed-more null firsts stack t (p .height) (d .height) l (cell-begins false (told .0)) (cell-empty g true (told .1)) (inv .passed);
+          dropped = dropped-more p d l (inv .dropped);
+          shows = subst (λ y. Shows y (pile stack (d .height - 1))) (sym s) (seen-below stack (d .height) window l (inv .shows));
+        })
 
-  pub ends-stuck : (d : Parser) → (b e : Bool) → b ≡ beginsBy firsts (getD stack (d .height - 1) 0) t
-      → e ≡ emptyBy null (getD stack (d .height - 1) 0) → Told (getD stack (d .height - 1) 0) b e Error → Going null firsts stack t p d
-      → WayOf null firsts stack t p Stuck
-  unfolding Told WayOf
-  ends-stuck d b e f g told inv =
-      record {
-        height = d .height;
-        passed = inv .passed;
-        stops = inr (
-          sym f ∙ told .0,
-          ⊎-elim (λ n. sym g ∙ n) (λ l. terminal-not-empty null (getD stack (d .height - 1) 0) l) (told .1),
-        );
-      }
+    fitting : 0 < d .height → b ≡ true → Fitting null firsts stack t p d
+    fitting l f = record { passed = inv .passed; dropped = inv .dropped; some = l; begins = cell-begins true f }
 
-  pub ends-bottom : (d : Parser) → d .height ≤ 0 → Going null firsts stack t p d → WayOf null firsts stack t p Stuck
+    pub ends-fits : 0 < d .height → Told x b e Match → WayOf null firsts stack t p (Fits d window)
+    unfolding Told WayOf
+    ends-fits l told = (fitting l (told .0), subst (λ y. y < 64) top (told .1), inv .shows)
+
+    pub ends-grows : 0 < d .height → Told x b e Expand → WayOf null firsts stack t p (Grows d x)
+    unfolding Told WayOf
+    ends-grows l told = (fitting l (told .0), subst (λ y. 64 ≤ y) top (told .1), top)
+
+    pub ends-stuck : e ≡ emptyBy null x → Told x b e Error → WayOf null firsts stack t p Stuck
+    unfolding Told WayOf
+    ends-stuck g told =
+        record {
+          height = d .height;
+          passed = inv .passed;
+          stops = inr (
+            cell-begins false (told .0),
+            ⊎-elim
+                (λ n. cell-empty g false n)
+                (λ l. terminal-not-empty null (getD stack (d .height - 1) 0) (subst (λ y. y < 64) top l)) (told .1),
+          );
+        }
+
+  pub ends-bottom : (d : Parser) (window : ℕ) → d .height ≤ 0 → Going null firsts stack t p d window → WayOf null firsts stack t p Stuck
   unfolding WayOf
-  ends-bottom d l inv = record { height = d .height; passed = inv .passed; stops = inl (omega arith) }
+  ends-bottom d window l inv = record { height = d .height; passed = inv .passed; stops = inl (omega arith) }

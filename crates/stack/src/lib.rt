@@ -2,9 +2,10 @@
 // slice beside it, whose top is its last cell in use: `pile` of specs/Pile.antt.
 ghost use mathlib.Core.Path.{_≡_};
 ghost use mathlib.Core.Bool.{Bool};
-ghost use Prim.Native.Nat.{_+_, _-_, _*_, _≤_, _<_, _^_};
+ghost use Prim.Native.Nat.{_+_, _-_, _*_, _/_, _%_, _≤_, _<_, _^_};
 ghost use lib.ListN.{length, getD};
 ghost use Rattle.stack.specs.Tests.{beginsBy, emptyBy, pickBy};
+ghost use Rattle.stack.specs.Windows.{CanSee};
 ghost use Rattle.stack.specs.Ways.{CanDescend, WayOf};
 ghost use Rattle.stack.specs.Push.{CanPush, Pushed};
 
@@ -35,7 +36,13 @@ impl Parser {
     // "Match, one pop, next token."
     pub fn matched(mut self) -> Self
         requires { ⌜ (1 ≤ self .height) × (self .place + 1 < 2 ^ 64) × (self .moves + 1 < 2 ^ 64) ⌝ }
-        ensures { λ r. ⌜ r ≡ record { place = self .place + 1; height = self .height - 1; moves = self .moves + 1; records = self .records; listed = self .listed } ⌝ }
+        ensures { λ r. ⌜ r ≡ record {
+          place = self .place + 1;
+          height = self .height - 1;
+          moves = self .moves + 1;
+          records = self .records;
+          listed = self .listed;
+        } ⌝ }
     {
         self.place += 1;
         self.height -= 1;
@@ -46,7 +53,13 @@ impl Parser {
     // "Expand: one pop, the right side is pushed, the rule number is listed": `size` symbols are pushed.
     pub fn expanded(mut self, size: usize) -> Self
         requires { ⌜ (1 ≤ self .height) × (self .height + size < 2 ^ 64) × (self .listed + 1 < 2 ^ 64) × (self .moves + 1 < 2 ^ 64) ⌝ }
-        ensures { λ r. ⌜ r ≡ record { place = self .place; height = self .height - 1 + size; moves = self .moves + 1; records = self .records; listed = self .listed + 1 } ⌝ }
+        ensures { λ r. ⌜ r ≡ record {
+          place = self .place;
+          height = self .height - 1 + size;
+          moves = self .moves + 1;
+          records = self .records;
+          listed = self .listed + 1;
+        } ⌝ }
     {
         self.height = self.height - 1 + size;
         self.listed += 1;
@@ -57,7 +70,13 @@ impl Parser {
     // "Drop, one pop, nothing listed."
     pub fn dropped(mut self) -> Self
         requires { ⌜ (1 ≤ self .height) × (self .moves + 1 < 2 ^ 64) ⌝ }
-        ensures { λ r. ⌜ r ≡ record { place = self .place; height = self .height - 1; moves = self .moves + 1; records = self .records; listed = self .listed } ⌝ }
+        ensures { λ r. ⌜ r ≡ record {
+          place = self .place;
+          height = self .height - 1;
+          moves = self .moves + 1;
+          records = self .records;
+          listed = self .listed;
+        } ⌝ }
     {
         self.height -= 1;
         self.moves += 1;
@@ -67,7 +86,13 @@ impl Parser {
     // A delete passes its token.
     pub fn deleted(mut self) -> Self
         requires { ⌜ (self .place + 1 < 2 ^ 64) × (self .records + 1 < 2 ^ 64) × (self .moves + 1 < 2 ^ 64) ⌝ }
-        ensures { λ r. ⌜ r ≡ record { place = self .place + 1; height = self .height; moves = self .moves + 1; records = self .records + 1; listed = self .listed } ⌝ }
+        ensures { λ r. ⌜ r ≡ record {
+          place = self .place + 1;
+          height = self .height;
+          moves = self .moves + 1;
+          records = self .records + 1;
+          listed = self .listed;
+        } ⌝ }
     {
         self.place += 1;
         self.records += 1;
@@ -78,12 +103,47 @@ impl Parser {
     // An insert pops its symbol.
     pub fn inserted(mut self) -> Self
         requires { ⌜ (1 ≤ self .height) × (self .records + 1 < 2 ^ 64) × (self .moves + 1 < 2 ^ 64) ⌝ }
-        ensures { λ r. ⌜ r ≡ record { place = self .place; height = self .height - 1; moves = self .moves + 1; records = self .records + 1; listed = self .listed } ⌝ }
+        ensures { λ r. ⌜ r ≡ record {
+          place = self .place;
+          height = self .height - 1;
+          moves = self .moves + 1;
+          records = self .records + 1;
+          listed = self .listed;
+        } ⌝ }
     {
         self.height -= 1;
         self.records += 1;
         self.moves += 1;
         self
+    }
+}
+
+// ---- The top
+
+// The symbol that the window has on top, 0 where it has none. `Shows` of specs/Windows.antt says what a window is.
+pub fn lowest(window: u64) -> u16
+    ensures { λ r. ⌜ r ≡ window % 256 ⌝ }
+{
+    (window % 256) as u16
+}
+
+// The window without its top.
+pub fn below(window: u64) -> u64
+    ensures { λ r. ⌜ r ≡ window / 256 ⌝ }
+{
+    window / 256
+}
+
+// The symbol on top: from the window, since reading back what was written a moment ago is what a run would wait for.
+pub fn top_of(stack: &[u16], height: usize, window: u64) -> u16
+    requires { ⌜ CanSee (now stack) height window ⌝ }
+    ensures { λ r. ⌜ r ≡ getD (now (stack .entry)) (height - 1) 0 ⌝ }
+{
+    let symbol = lowest(window);
+    if symbol == 0 {
+        stack[height - 1]
+    } else {
+        symbol
     }
 }
 
@@ -147,27 +207,31 @@ pub fn choose(top: u16, begins: bool, empty: bool) -> Pick
     }
 }
 
-// Where a token leads: the top is it, with what stood above dropped; or a nonterminal that it begins; or it is in error.
+// Where a token leads: the top is it, with what stood above dropped, and the window there; or a nonterminal that it begins,
+// which is given too; or it is in error.
 pub enum Way {
-    Fits(Parser),
-    Grows(Parser),
+    Fits(Parser, u64),
+    Grows(Parser, u16),
     Stuck,
 }
 
 // Makes the drops for token t on a copy of the state: where the token is in error the caller's state stands.
-pub fn descend(null: u64, firsts: &[u64], stack: &[u16], p: Parser, t: u16) -> Way
-    requires { ⌜ CanDescend (now firsts) (now stack) p t ⌝ }
+pub fn descend(null: u64, firsts: &[u64], stack: &[u16], p: Parser, window: u64, t: u16) -> Way
+    requires { ⌜ CanDescend (now firsts) (now stack) p window t ⌝ }
     ensures { λ r. ⌜ WayOf null (now (firsts .entry)) (now (stack .entry)) t p r ⌝ }
 {
     let mut d = p;
+    let mut w = window;
     while 0 < d.height {
-        let at = d.height - 1;
-        let top = stack[at];
+        let top = top_of(stack, d.height, w);
         let pick = choose(top, begins(firsts, top, t), empty(null, top));
         match pick {
-            Pick::Match => return Way::Fits(d),
-            Pick::Expand => return Way::Grows(d),
-            Pick::Drop => d = d.dropped(),
+            Pick::Match => return Way::Fits(d, w),
+            Pick::Expand => return Way::Grows(d, top),
+            Pick::Drop => {
+                d = d.dropped();
+                w = below(w);
+            }
             Pick::Error => return Way::Stuck,
         }
     }

@@ -1,5 +1,5 @@
 -- What the answers of the grammar check mean, and what stands in the tables behind them.
-use Prim.Native.Nat.{ℕ, _≤_}
+use Prim.Native.Nat.{ℕ, _+_, _≤_}
 use mathlib.Core.Path.{_≡_, refl, ap, subst}
 use mathlib.Core.Bool.{Bool}
 use mathlib.Core.List.{List, [], _∷_}
@@ -59,18 +59,19 @@ pub data Judged (ws places costs firsts : List ℕ) : Judgement → Type 0 where
   refused : {r : Refusal} → Verdict ws (some r) → Judged ws places costs firsts (judged.Refused r)
 
 -- What a judgement says where the tables are filled.
-pub data Tabled (ws firsts rule-firsts costs heads blocks : List ℕ) : Judgement → Type 0 where
-  passed : {null : ℕ} → Verdict ws none → Tables ws null firsts rule-firsts costs heads blocks
-      → Tabled ws firsts rule-firsts costs heads blocks (judged.Passed null)
-  refused : {r : Refusal} → Verdict ws (some r) → Tabled ws firsts rule-firsts costs heads blocks (judged.Refused r)
+pub data Tabled (ws firsts rule-firsts costs heads blocks rights : List ℕ) : Judgement → Type 0 where
+  passed : {null : ℕ} → Verdict ws none → Tables ws null firsts rule-firsts costs heads blocks rights
+      → Tabled ws firsts rule-firsts costs heads blocks rights (judged.Passed null)
+  refused : {r : Refusal} → Verdict ws (some r) → Tabled ws firsts rule-firsts costs heads blocks rights (judged.Refused r)
 
 -- The sizes of the lent tables.
-pub record Sizes (firsts ruleFirsts costs heads blocks : List ℕ) : Type 0 where
+pub record Sizes (firsts ruleFirsts costs heads blocks rights : List ℕ) : Type 0 where
   pub firsts-size : length firsts ≡ 64
   pub rule-firsts-size : length ruleFirsts ≡ 256
   pub costs-size : length costs ≡ 128
-  pub heads-size : length heads ≡ 64
+  pub heads-size : length heads ≡ 128
   pub blocks-size : length blocks ≡ 4096
+  pub rights-size : length rights ≡ 256
 
 -- What a caller knows in each arm.
 pub judged-passed : {ws places costs firsts : List ℕ} {j : Judgement} {null : ℕ} → Judged ws places costs firsts j → j ≡ judged.Passed null
@@ -85,9 +86,9 @@ judged-refused (Judged.passed p) e = absurd (let z : _≡_ {A = ℕ} 0 1 = cc in
 judged-refused {ws} {r = r} (Judged.refused {r = q} v) e = let same : q ≡ r = cc in subst (λ m. Verdict ws (some m)) same v
 
 -- The tables, from what stands in each.
-pub tabled : {ws places costs firsts rule-firsts priced heads blocks : List ℕ} {null : ℕ} → Passing ws null places costs firsts
+pub tabled : {ws places costs firsts rule-firsts priced heads blocks rights : List ℕ} {null : ℕ} → Passing ws null places costs firsts
     → length firsts ≡ 64 → length rule-firsts ≡ 256 → RuleFirstsOf ws rule-firsts → Priced ws priced
-    → Linked ws (ruleCount ws) heads blocks → Tables ws null firsts rule-firsts priced heads blocks
+    → Linked ws (ruleCount ws) heads blocks rights → Tables ws null firsts rule-firsts priced heads blocks rights
 tabled p size sizes rules prices links =
     record {
       nulls = p .nulls;
@@ -99,16 +100,18 @@ tabled p size sizes rules prices links =
       cost = prices .cost;
       cost-limit = prices .limit;
       heads-size = links .heads-size;
-      head = λ k h. links .head k;
+      head = λ k h. links .head (64 + k);
       blocks-size = links .blocks-size;
       block = links .block;
+      rights-size = links .rights-size;
+      right = links .right;
     }
 
 -- ---- One answer
 
 -- The verdict that a judgement with its tables stands for.
-pub tabled-verdict : {ws firsts rule-firsts costs heads blocks : List ℕ} {j : Judgement} → Tabled ws firsts rule-firsts costs heads blocks j
-    → Verdict ws (judgementOf j)
+pub tabled-verdict : {ws firsts rule-firsts costs heads blocks rights : List ℕ} {j : Judgement}
+    → Tabled ws firsts rule-firsts costs heads blocks rights j → Verdict ws (judgementOf j)
 tabled-verdict (Tabled.passed v t) = v
 tabled-verdict (Tabled.refused v) = v
 

@@ -1,5 +1,5 @@
--- The rules' blocks, and the links from each rule to the one before it of the same left side.
-use Prim.Native.Nat.{ℕ, suc, _+_, _-_, _*_, _≤_, _<_}
+-- The rules' blocks, and the links from each rule to the one before it of the same left side that has a token in its FIRST.
+use Prim.Native.Nat.{ℕ, suc, _+_, _-_, _*_, _^_, _≤_, _<_}
 use mathlib.Core.Path.{_≡_, refl, sym, ap, _∙_, subst}
 use mathlib.Core.Bool.{Bool, true, false}
 use mathlib.Core.List.{List, [], _∷_}
@@ -9,10 +9,17 @@ use lib.ListN.{length, getD, set, replicate, length-set, length-replicate}
 use lib.Seq.{getD-set-same, getD-set-other}
 use lib.Dec.{eqb}
 use borrow.Author.Tests.{eqb-true, eqb-false}
-use Rattle.grammar.specs.Words.{word, nonterminalCount, ruleCount, leftSide, rightSize, rulePlace, Shaped}
+use Rattle.grammar.specs.Words.{word, nonterminalCount, ruleCount, leftSide, rightSide, rightSize, rulePlace, Shaped}
+use Rattle.grammar.specs.Derivation.{First}
+use Rattle.grammar.specs.Grammar.{RuleOf}
+use Rattle.sets.specs.Bits.{member}
+use Rattle.sets.specs.Laws.{empty-none, some-member}
 use Rattle.shape.specs.Accessors.{LeftOf, SizeOf, SymbolAt}
-use Rattle.growth.specs.Sums.{all-zero}
-use Rattle.verdict.specs.Tables.{LastBefore, Block}
+use Rattle.shape.specs.Ready.{Ready}
+use Rattle.firsts.specs.Masks.{FirstMask}
+use Rattle.firsts.specs.Asked.{RuleFirstsOf}
+use Rattle.growth.specs.Sums.{all-zero, filled-more}
+use Rattle.verdict.specs.Tables.{packed, LastBefore, Block}
 
 same-or-not : (a b : ℕ) → (a ≡ b) ⊎ (a ≡ b → ⊥)
 same-or-not a b = at (eqb a b) refl
@@ -97,31 +104,77 @@ block-written {ws} {p} {n} {last} {old} {new} s size room =
     narrow j (inl o) = inl o
     narrow j (inr o) = inr (omega arith)
 
+-- ---- A link
+
+-- Rule p is not linked: its left side is another, or its FIRST is empty.
+before-stays : {ws : List ℕ} {A p link : ℕ} → LastBefore ws A p link
+    → (leftSide ws p ≡ A → (t : ℕ) → First (RuleOf ws) (rightSide ws p) t → ⊥) → LastBefore ws A (p + 1) link
+before-stays {ws} {A} {p} {link} o not =
+    record {
+      within = omega (arith, o .within);
+      named = o .named;
+      some = o .some;
+      others = λ q c d e t f. none q c d e t f (same-or-not q p);
+    }
+  where
+    none : (q : ℕ) → link ≤ q → q < p + 1 → leftSide ws q ≡ A → (t : ℕ) → First (RuleOf ws) (rightSide ws q) t
+        → (q ≡ p) ⊎ (q ≡ p → ⊥) → ⊥
+    none q c d e t f (inl i) =
+        not (ap (leftSide ws) (sym i) ∙ e) t (subst (λ r. First (RuleOf ws) (rightSide ws r) t) i f)
+    none q c d e t f (inr i) = o .others q c (omega arith) e t f
+
+-- Rule p is the last one now.
+before-goes : {ws : List ℕ} {A : ℕ} (p : ℕ) → leftSide ws p ≡ A → (t : ℕ) × First (RuleOf ws) (rightSide ws p) t
+    → LastBefore ws A (p + 1) (p + 1)
+before-goes {ws} {A} p left some =
+    let e : p ≡ p + 1 - 1 = omega arith in
+    record {
+      within = omega arith;
+      named = inr (ap (leftSide ws) (sym e) ∙ left);
+      some = λ h. subst (λ q. (t : ℕ) × First (RuleOf ws) (rightSide ws q) t) e some;
+      others = λ q c d. absurd (omega arith);
+    }
+
 -- ---- All blocks
 
--- The heads and blocks of the rules before rule p.
-pub record Linked (ws : List ℕ) (p : ℕ) (heads blocks : List ℕ) : Type 0 where
-  pub inside : p ≤ ruleCount ws
-  pub heads-size : length heads ≡ 64
+-- What the links need: the rules' places, FIRST of each right side, and the sizes of the lent tables.
+pub record CanLink (ws places ruleFirsts heads blocks rights : List ℕ) : Type 0 where
+  pub ready : Ready ws places
+  pub exact : RuleFirstsOf ws ruleFirsts
+  pub rule-firsts-size : length ruleFirsts ≡ 256
+  pub heads-size : length heads ≡ 128
   pub blocks-size : length blocks ≡ 4096
-  pub head : (k : ℕ) → LastBefore ws (64 + k) p (getD heads k 0)
-  pub block : (q : ℕ) → q < p → Block ws blocks q
+  pub rights-size : length rights ≡ 256
 
-pub linked-begins : {ws heads blocks : List ℕ} (n : ℕ) → heads ≡ replicate n 0 → n ≡ 64 → length blocks ≡ 4096 → Linked ws 0 heads blocks
-linked-begins {ws} {heads} n zeros e size =
+-- The heads, blocks and right sides of the rules before rule p.
+pub record Linked (ws : List ℕ) (p : ℕ) (heads blocks rights : List ℕ) : Type 0 where
+  pub inside : p ≤ ruleCount ws
+  pub heads-size : length heads ≡ 128
+  pub blocks-size : length blocks ≡ 4096
+  pub rights-size : length rights ≡ 256
+  pub head : (A : ℕ) → LastBefore ws A p (getD heads A 0)
+  pub block : (q : ℕ) → q < p → Block ws blocks q
+  pub right : (q : ℕ) → q < p → getD rights q 0 ≡ packed (rightSide ws q)
+
+pub linked-begins : {ws heads blocks rights : List ℕ} (n : ℕ) → heads ≡ replicate n 0 → n ≡ 128 → length blocks ≡ 4096 → length rights ≡ 256
+    → Linked ws 0 heads blocks rights
+linked-begins {ws} {heads} n zeros e size sizes =
     record {
       inside = omega arith;
       heads-size = ap length zeros ∙ (length-replicate n 0 ∙ e);
       blocks-size = size;
-      head = λ k. subst (LastBefore ws (64 + k) 0) (sym (ap (λ l. getD l k 0) zeros ∙ all-zero n k)) none;
+      rights-size = sizes;
+      head = λ A. subst (LastBefore ws A 0) (sym (ap (λ l. getD l A 0) zeros ∙ all-zero n A)) none;
       block = λ q h. absurd (omega arith);
+      right = λ q h. absurd (omega arith);
     }
   where
     none : {A : ℕ} → LastBefore ws A 0 0
-    none = record { within = omega arith; named = inl refl; others = λ q a b. absurd (omega arith) }
+    none = record { within = omega arith; named = inl refl; some = λ h. absurd (omega arith); others = λ q a b. absurd (omega arith) }
 
-module _ {ws : List ℕ} (s : Shaped ws) {p k : ℕ} {heads blocks new : List ℕ} (l : Linked ws p heads blocks) (h : p < ruleCount ws)
-    (left : LeftOf ws p k) (b : BlockIn ws p (getD heads k 0) blocks new) where
+module _ {ws : List ℕ} (s : Shaped ws) {p k x : ℕ} {heads blocks rights new : List ℕ} (l : Linked ws p heads blocks rights)
+    (h : p < ruleCount ws) (left : LeftOf ws p k) (b : BlockIn ws p (getD heads (64 + k) 0) blocks new)
+    (w : x ≡ packed (rightSide ws p)) where
   -- An earlier block is as it was.
   earlier : (q : ℕ) → q < p → Block ws new q
   earlier q c =
@@ -139,50 +192,59 @@ module _ {ws : List ℕ} (s : Shaped ws) {p k : ℕ} {heads blocks new : List �
         symbols = b .symbols;
         size = b .size;
         link = subst (LastBefore ws (leftSide ws p) p) (sym (b .link))
-            (subst (λ A. LastBefore ws A p (getD heads k 0)) (sym (left .names)) (l .head k));
+            (subst (λ A. LastBefore ws A p (getD heads (64 + k) 0)) (sym (left .names)) (l .head (64 + k)));
       }
 
-  -- The rule is now the last of its left side,
-  at-left : LastBefore ws (64 + k) (p + 1) (p + 1)
-  at-left =
-      let e : p ≡ p + 1 - 1 = omega arith in
-      record {
-        within = omega arith;
-        named = inr (ap (leftSide ws) (sym e) ∙ left .names);
-        others = λ q c d. absurd (omega arith);
-      }
-
-  -- and no other left side's last one is another.
-  at-other : (j : ℕ) → (j ≡ k → ⊥) → LastBefore ws (64 + j) (p + 1) (getD heads j 0)
-  at-other j n =
-      let o = l .head j in
-      record { within = omega (arith, o .within); named = o .named; others = λ q c d e. none q c d e (same-or-not q p) }
-    where
-      none : (q : ℕ) → getD heads j 0 ≤ q → q < p + 1 → leftSide ws q ≡ 64 + j → (q ≡ p) ⊎ (q ≡ p → ⊥) → ⊥
-      none q c d e (inl i) = n (omega (arith, left .names, ap (leftSide ws) i))
-      none q c d e (inr i) = l .head j .others q c (omega arith) e
-
-  head : (j : ℕ) → LastBefore ws (64 + j) (p + 1) (getD (set heads k (p + 1)) j 0)
-  head j =
-      ⊎-elim
-      (λ e.
-      subst (λ i. LastBefore ws (64 + i) (p + 1) (getD (set heads k (p + 1)) i 0)) (sym e)
-      (subst (LastBefore ws (64 + k) (p + 1)) (sym (getD-set-same heads k (p + 1) 0 (omega (arith, l .heads-size, left .small)))) at-left))
-      (λ n. subst (LastBefore ws (64 + j) (p + 1)) (sym (getD-set-other heads k j (p + 1) 0 n)) (at-other j n))
-      (same-or-not j k)
-
-  pub linked-goes : Linked ws (p + 1) (set heads k (p + 1)) new
-  linked-goes =
+  -- The rule's block and its right side are there, whatever the heads became.
+  goes : {after : List ℕ} → length after ≡ length heads → ((A : ℕ) → LastBefore ws A (p + 1) (getD after A 0))
+      → Linked ws (p + 1) after new (set rights p x)
+  goes {after} same head =
       record {
         inside = omega arith;
-        heads-size = length-set heads k (p + 1) ∙ l .heads-size;
+        heads-size = same ∙ l .heads-size;
         blocks-size = b .same ∙ l .blocks-size;
+        rights-size = length-set rights p x ∙ l .rights-size;
         head = head;
         block = λ q c. ⊎-elim (λ e. subst (Block ws new) (sym e) own) (λ n. earlier q (omega arith)) (same-or-not q p);
+        right = filled-more (λ q m. m ≡ packed (rightSide ws q)) rights p x (omega (arith, s .rules-high, l .rights-size)) (l .right) w;
       }
+
+  -- A rule whose FIRST is empty leaves every link as it was.
+  pub linked-stays : {after : List ℕ} (mask : ℕ) → FirstMask ws (rightSide ws p) mask → mask ≤ 0 → after ≡ heads
+      → Linked ws (p + 1) after new (set rights p x)
+  linked-stays mask exact z same =
+      subst (λ a. Linked ws (p + 1) a new (set rights p x)) (sym same) (goes refl (λ A. before-stays (l .head A) (λ e. none)))
+    where
+      none : (t : ℕ) → First (RuleOf ws) (rightSide ws p) t → ⊥
+      none t f =
+          let e : mask ≡ 0 = omega arith in
+          empty-none t (subst (λ m. member m t ≡ true) e (exact t (f .token) .1 f))
+
+  -- Any other becomes the last of its left side, and no other left side's last one is another.
+  pub linked-goes : {after : List ℕ} (mask : ℕ) → FirstMask ws (rightSide ws p) mask → 0 < mask → mask < 2 ^ 64
+      → after ≡ set heads (64 + k) (p + 1) → Linked ws (p + 1) after new (set rights p x)
+  linked-goes mask exact pos small same =
+      subst (λ a. Linked ws (p + 1) a new (set rights p x)) (sym same) (goes (length-set heads (64 + k) (p + 1)) head)
+    where
+      some : (t : ℕ) × First (RuleOf ws) (rightSide ws p) t
+      some = let at = some-member 64 mask small pos in (at .number, exact (at .number) (at .below) .0 (at .held))
+
+      at-other : (A : ℕ) → (A ≡ 64 + k → ⊥) → LastBefore ws A (p + 1) (getD heads A 0)
+      at-other A n = before-stays (l .head A) (λ e t f. n (sym e ∙ left .names))
+
+      head : (A : ℕ) → LastBefore ws A (p + 1) (getD (set heads (64 + k) (p + 1)) A 0)
+      head A =
+          ⊎-elim
+          (λ e.
+          subst (λ i. LastBefore ws i (p + 1) (getD (set heads (64 + k) (p + 1)) i 0)) (sym e)
+          (subst (LastBefore ws (64 + k) (p + 1)) (sym (getD-set-same heads (64 + k) (p + 1) 0 (omega (arith, l .heads-size, left .small))))
+          (before-goes p (left .names) some)))
+          (λ n. subst (LastBefore ws A (p + 1)) (sym (getD-set-other heads (64 + k) A (p + 1) 0 n)) (at-other A n))
+          (same-or-not A (64 + k))
 
 pub symbols-end : {ws : List ℕ} {p i n : ℕ} {old new : List ℕ} → SymbolsIn ws p i old new → i ≡ n → SymbolsIn ws p n old new
 symbols-end {ws} {p} {old = old} {new = new} s e = subst (λ k. SymbolsIn ws p k old new) e s
 
-pub linked-ends : {ws : List ℕ} {p n : ℕ} {heads blocks : List ℕ} → Linked ws p heads blocks → p ≡ n → Linked ws n heads blocks
-linked-ends {ws} {heads = heads} {blocks = blocks} l e = subst (λ k. Linked ws k heads blocks) e l
+pub linked-ends : {ws : List ℕ} {p n : ℕ} {heads blocks rights : List ℕ} → Linked ws p heads blocks rights → p ≡ n
+    → Linked ws n heads blocks rights
+linked-ends {ws} {heads = heads} {blocks = blocks} {rights = rights} l e = subst (λ k. Linked ws k heads blocks rights) e l

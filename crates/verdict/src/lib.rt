@@ -65,10 +65,11 @@ pub fn tables(
     costs: &mut [u32],
     heads: &mut [u16],
     blocks: &mut [u16],
+    rights: &mut [u64],
 ) -> Judgement
-    requires { ⌜ Sizes (now firsts) (now «rule_firsts») (now costs) (now heads) (now blocks) ⌝ }
+    requires { ⌜ Sizes (now firsts) (now «rule_firsts») (now costs) (now heads) (now blocks) (now rights) ⌝ }
     ensures { λ r. ⌜ Tabled (now (words .entry)) (now (firsts .exit)) (now («rule_firsts» .exit)) (now (costs .exit))
-        (now (heads .exit)) (now (blocks .exit)) r ⌝ }
+        (now (heads .exit)) (now (blocks .exit)) (now (rights .exit)) r ⌝ }
 {
     let mut places = [0u16; 256];
     let answer = judge(words, &mut places, costs, firsts);
@@ -83,6 +84,7 @@ pub fn tables(
                 costs,
                 heads,
                 blocks,
+                rights,
             );
             Judgement::Passed(null)
         }
@@ -100,15 +102,16 @@ fn complete(
     costs: &mut [u32],
     heads: &mut [u16],
     blocks: &mut [u16],
+    rights: &mut [u64],
 )
     requires { ⌜ Passing (now words) null (now places) (now costs) (now firsts) ⌝ }
-    requires { ⌜ Sizes (now firsts) (now «rule_firsts») (now costs) (now heads) (now blocks) ⌝ }
+    requires { ⌜ Sizes (now firsts) (now «rule_firsts») (now costs) (now heads) (now blocks) (now rights) ⌝ }
     ensures { λ _. ⌜ Tables (now (words .entry)) null (now (firsts .entry)) (now («rule_firsts» .exit)) (now (costs .exit))
-        (now (heads .exit)) (now (blocks .exit)) ⌝ }
+        (now (heads .exit)) (now (blocks .exit)) (now (rights .exit)) ⌝ }
 {
     firsts::rule_firsts(words, places, null, firsts, rule_firsts);
     price_rest(words, costs);
-    links::fill(words, places, heads, blocks);
+    links::fill(words, places, rule_firsts, heads, blocks, rights);
 }
 
 // The conditions in their order, each over the whole grammar before the next. FOLLOW is exact only where every nonterminal

@@ -2,6 +2,8 @@
 -- the measure.
 use borrow.Author.Needs.{needs}
 use native.Mathlib.Omega.{arith}
+use mathlib.Core.Path.{ap, _∙_}
+use lib.ListN.{getD}
 use Rattle.repair.specs.Lookup.{Linking, rules-within, linking-head, linking-more, link-found, link-some}
 use Rattle.repair.proofs.rule_for.Statement.{statement}
 use Rattle.repair.proofs.rule_for.Tie as tie
@@ -11,9 +13,6 @@ Inv-loop words rule-firsts heads blocks top t link₀ link = Linking words top t
 
 abbrev μ-loop : tie.MeasureT-loop
 μ-loop words rule-firsts heads blocks top t link₀ link = link
-
-sub-wide : tie.Need-sub-wide Inv-loop μ-loop
-sub-wide c = c .before .before .before .before .pre .low
 
 wide-requires : tie.Need-wide-requires Inv-loop μ-loop
 wide-requires c κs = search needs
@@ -41,7 +40,7 @@ loop-holds : tie.Need-loop-holds Inv-loop μ-loop
 loop-holds c =
     let at-wide = c .before .before in
     let start = at-wide .before .before .before .before .before in
-    linking-head (start .pre) _ _ (at-wide .wide .ensures) (c .wide2 .ensures)
+    linking-head (start .pre) _ (c .wide2 .ensures ∙ ap (λ k. getD (start .args .heads .now) k 0) (at-wide .wide .ensures))
 
 sub-p : tie.Need-sub-p Inv-loop μ-loop
 sub-p c = search needs
@@ -135,7 +134,6 @@ rule-for-spec =
     (tie.spec
     Inv-loop
     μ-loop
-    sub-wide
     wide-requires
     mul-wide
     shared-slice-read-wide

@@ -1,6 +1,7 @@
 -- `repair::turn` meets its contract: each way of the token is a decision of the run, or drops and a decision.
-use borrow.Author.Needs.{needs}
+use native.Mathlib.Omega.{arith}
 use Rattle.repair.specs.Turns.{descend-can, match-can, turn-match, expand-can, turn-expand, correct-can, turn-correct, turn-full}
+use borrow.Author.Needs.{needs}
 use Rattle.repair.proofs.turn.Statement.{statement}
 use Rattle.repair.proofs.turn.Tie as tie
 
@@ -9,39 +10,43 @@ token-at-requires c κs = search needs
 
 descend-requires : tie.Need-descend-requires
 descend-requires c κs =
-    let at-before = c .before .before .before .before .before .before .before .before .before .before .before in
-    let start = at-before .before in descend-can (start .pre) _ (c .before .token-at .ensures)
+    let at-token-at = c .before in
+    let start = at-token-at .before .before .before .before .before .before .before .before .before .before .before .before in
+    descend-can (start .pre) _ (at-token-at .token-at .ensures)
 
 enum-known-way : tie.Need-enum-known-way
 enum-known-way c = search needs
 
 matched-requires : tie.Need-matched-requires
 matched-requires c κs =
-    let at-before = c .before .before in
-    let at-descend = at-before .before in let at-token-at = at-descend .before .before in let start =
-    at-token-at .before .before .before .before .before .before .before .before .before .before .before in match-can
-    (start .pre) _ (at-token-at .token-at .ensures) (at-descend .descend .ensures) (c .before .way .given .1)
+    let at-way = c .before in
+    let at-descend = at-way .before .before in
+    let at-token-at = at-descend .before .before in
+    let start = at-token-at .before .before .before .before .before .before .before .before .before .before .before .before in
+    match-can (start .pre) _ (at-token-at .token-at .ensures) (at-descend .descend .ensures) (at-way .way .given .1)
+
+below-requires : tie.Need-below-requires
+below-requires c κs = search needs
 
 enum-known-way-2 : tie.Need-enum-known-way-2
 enum-known-way-2 c = search needs
 
 expand-requires : tie.Need-expand-requires
 expand-requires c κs =
-    let at-before = c .before .before in
-    let at-way2 = at-before .before in let at-descend = at-way2 .before .before in let at-token-at =
-    at-descend .before .before in let start =
-    at-token-at .before .before .before .before .before .before .before .before .before .before .before in expand-can
-    (start .pre) _ (at-token-at .token-at .ensures) (at-descend .descend .ensures) (at-way2 .way2 .given .1)
+    let at-way2 = c .before .before .before in
+    let at-descend = at-way2 .before .before in
+    let at-token-at = at-descend .before .before in
+    let start = at-token-at .before .before .before .before .before .before .before .before .before .before .before .before in
+    expand-can (start .pre) _ (at-token-at .token-at .ensures) (at-descend .descend .ensures) (at-way2 .way2 .given .1)
 
 enum-told : tie.Need-enum-told
 enum-told c = search needs
 
 correct-requires : tie.Need-correct-requires
 correct-requires c κs =
-    let at-before = c .before .before .before .before .before in
-    let at-token-at = at-before .before in let start =
-    at-token-at .before .before .before .before .before .before .before .before .before .before .before in correct-can
-    (start .pre) _ (at-token-at .token-at .ensures)
+    let at-token-at = c .before .before .before .before .before .before in
+    let start = at-token-at .before .before .before .before .before .before .before .before .before .before .before .before in
+    correct-can (start .pre) _ (at-token-at .token-at .ensures)
 
 enum-known-corrected : tie.Need-enum-known-corrected
 enum-known-corrected c = search needs
@@ -54,11 +59,12 @@ same-length c = search needs
 
 returns : tie.Need-returns
 returns c =
-    let at-way = c .before .before in let at-descend = at-way .before .before in let at-token-at =
-    at-descend .before .before in let start =
-    at-token-at .before .before .before .before .before .before .before .before .before .before .before in turn-match
-    (start .pre) _ (at-token-at .token-at .ensures) (at-descend .descend .ensures) (at-way .way .given .1)
-    (c .matched .ensures)
+    let at-matched = c .before in
+    let at-way = at-matched .before .before in
+    let at-descend = at-way .before .before in
+    let at-token-at = at-descend .before .before in
+    let start = at-token-at .before .before .before .before .before .before .before .before .before .before .before .before in
+    turn-match (start .pre) _ (at-token-at .token-at .ensures) (at-descend .descend .ensures) (at-way .way .given .1) (at-matched .matched .ensures) (c .below .ensures)
 
 same-length-2 : tie.Need-same-length-2
 same-length-2 c = search needs
@@ -68,12 +74,12 @@ same-length-3 c = search needs
 
 returns-2 : tie.Need-returns-2
 returns-2 c =
-    let at-before = c .before .before .before in
-    let at-expand = at-before .before in let at-way2 = at-expand .before .before .before .before in let at-descend =
-    at-way2 .before .before in let at-token-at = at-descend .before .before in let start =
-    at-token-at .before .before .before .before .before .before .before .before .before .before .before in turn-expand
-    (start .pre) _ (at-token-at .token-at .ensures) _ _ (at-expand .expand .result) (at-descend .descend .ensures)
-    (at-way2 .way2 .given .1) (at-expand .expand .ensures)
+    let at-expand = c .before .before .before .before in
+    let at-way2 = at-expand .before .before .before .before in
+    let at-descend = at-way2 .before .before in
+    let at-token-at = at-descend .before .before in
+    let start = at-token-at .before .before .before .before .before .before .before .before .before .before .before .before in
+    turn-expand (start .pre) _ (at-token-at .token-at .ensures) _ _ (at-expand .expand .result) (at-descend .descend .ensures) (at-way2 .way2 .given .1) (at-expand .expand .ensures)
 
 same-length-4 : tie.Need-same-length-4
 same-length-4 c = search needs
@@ -83,12 +89,13 @@ same-length-5 c = search needs
 
 returns-3 : tie.Need-returns-3
 returns-3 c =
-    let at-before = c .before .before .before .before in
-    let at-correct = at-before .before in let at-enum-told = at-correct .before .before .before in let at-descend =
-    at-enum-told .before .before in let at-token-at = at-descend .before .before in let start =
-    at-token-at .before .before .before .before .before .before .before .before .before .before .before in turn-correct
-    (start .pre) _ (at-token-at .token-at .ensures) _ (at-descend .descend .ensures) (at-enum-told .enum-told .given .1)
-    (at-correct .correct .ensures) (c .before .corrected .given .1)
+    let at-corrected = c .before in
+    let at-correct = at-corrected .before .before .before .before in
+    let at-enum-told = at-correct .before .before .before in
+    let at-descend = at-enum-told .before .before in
+    let at-token-at = at-descend .before .before in
+    let start = at-token-at .before .before .before .before .before .before .before .before .before .before .before .before in
+    turn-correct (start .pre) _ (at-token-at .token-at .ensures) _ (at-descend .descend .ensures) (at-enum-told .enum-told .given .1) (at-correct .correct .ensures) (at-corrected .corrected .given .1)
 
 same-length-6 : tie.Need-same-length-6
 same-length-6 c = search needs
@@ -98,12 +105,12 @@ same-length-7 c = search needs
 
 returns-4 : tie.Need-returns-4
 returns-4 c =
-    let at-before = c .before .before .before in
-    let at-correct = at-before .before in let at-enum-told = at-correct .before .before .before in let at-descend =
-    at-enum-told .before .before in let at-token-at = at-descend .before .before in let start =
-    at-token-at .before .before .before .before .before .before .before .before .before .before .before in turn-full
-    (start .pre) _ (at-token-at .token-at .ensures) _ (at-descend .descend .ensures) (at-enum-told .enum-told .given .1)
-    (at-correct .correct .ensures) (c .enum-told2 .given .1)
+    let at-correct = c .before .before .before .before in
+    let at-enum-told = at-correct .before .before .before in
+    let at-descend = at-enum-told .before .before in
+    let at-token-at = at-descend .before .before in
+    let start = at-token-at .before .before .before .before .before .before .before .before .before .before .before .before in
+    turn-full (start .pre) _ (at-token-at .token-at .ensures) _ (at-descend .descend .ensures) (at-enum-told .enum-told .given .1) (at-correct .correct .ensures) (c .enum-told2 .given .1)
 
 pub turn-spec : {M : Type 1} → statement M
 turn-spec =
@@ -113,6 +120,7 @@ turn-spec =
     descend-requires
     enum-known-way
     matched-requires
+    below-requires
     enum-known-way-2
     expand-requires
     enum-told

@@ -1,48 +1,45 @@
--- `stack::descend` meets its contract: all between p's height and d's was passed. The measure is d's height.
-use Prim.Native.Nat.{_<_}
+-- `stack::descend` meets its contract: all between p's height and d's was passed, and the window shows what is left. The measure is
+-- d's height.
 use borrow.Author.Needs.{needs}
 use native.Mathlib.Omega.{arith}
+use Prim.Native.Nat.{_<_, _-_}
 use mathlib.Core.Path.{sym, subst}
 use Rattle.stack.specs.Tests.{told-of}
-use Rattle.stack.specs.Ways.{Going, going-none, going-more, ends-fits, ends-grows, ends-stuck, ends-bottom}
+use Rattle.stack.specs.Ways.{Going, going-sees, going-none, going-more, ends-fits, ends-grows, ends-stuck, ends-bottom}
 use Rattle.stack.proofs.descend.Statement.{statement}
 use Rattle.stack.proofs.descend.Tie as tie
 
 abbrev Inv-loop : tie.InvT-loop
-Inv-loop null firsts stack t d₀ d = Going null firsts stack t d₀ d
+Inv-loop null firsts stack window t d₀ w₀ d w = Going null firsts stack t d₀ d w
 
 abbrev μ-loop : tie.MeasureT-loop
-μ-loop null firsts stack t d₀ d = d .height
+μ-loop null firsts stack window t d₀ w₀ d w = d .height
 
 loop-holds : tie.Need-loop-holds Inv-loop μ-loop
-loop-holds c = going-none _ _ _ _ _
+loop-holds c = going-none _ _ _ _ _ _ (c .before .before .pre .shows)
 
-sub-at : tie.Need-sub-at Inv-loop μ-loop
-sub-at c = omega arith
-
-mul-top : tie.Need-mul-top Inv-loop μ-loop
-mul-top c =
-    let head = c .before .before .before in
+top-of-requires : tie.Need-top-of-requires Inv-loop μ-loop
+top-of-requires c κs =
+    let head = c .before .before in
     let start = head .before .before .before in
-    omega (arith, head .loop .inv .passed .within, start .pre .height, start .good)
-
-shared-slice-read-top : tie.Need-shared-slice-read-top Inv-loop μ-loop
-shared-slice-read-top c =
-    let head = c .before .before .before .before in
-    let start = head .before .before .before in
-    omega (arith, head .loop .inv .passed .within, start .pre .height)
+    going-sees (start .pre .height) (omega (arith, c .if1 .taken)) (head .loop .inv)
 
 begins-requires : tie.Need-begins-requires Inv-loop μ-loop
 begins-requires c κs =
-    let head = c .before .before .before .before in
+    let at-if1 = c .before in
+    let head = at-if1 .before .before in
     let start = head .before .before .before in
-    (start .pre .symbols _ (omega (arith, head .loop .inv .passed .within)), start .pre .token, start .pre .table)
+    let small = start .pre .symbols (head .loop .d .height - 1) (omega (arith, head .loop .inv .passed .within, at-if1 .if1 .taken)) in
+    (omega (arith, c .top-of .ensures, small), start .pre .token, start .pre .table)
 
 empty-requires : tie.Need-empty-requires Inv-loop μ-loop
 empty-requires c κs =
-    let head = c .before .before .before .before .before in
+    let at-top-of = c .before in
+    let at-if1 = at-top-of .before in
+    let head = at-if1 .before .before in
     let start = head .before .before .before in
-    start .pre .symbols _ (omega (arith, head .loop .inv .passed .within))
+    let small = start .pre .symbols (head .loop .d .height - 1) (omega (arith, head .loop .inv .passed .within, at-if1 .if1 .taken)) in
+    omega (arith, at-top-of .top-of .ensures, small)
 
 choose-requires : tie.Need-choose-requires Inv-loop μ-loop
 choose-requires c κs = search needs
@@ -54,10 +51,10 @@ returns : tie.Need-returns Inv-loop μ-loop
 returns c =
     let at-choose = c .before .before in
     let at-begins = at-choose .before .before in
-    let at-if1 = at-begins .before .before .before in
+    let at-top-of = at-begins .before in
+    let at-if1 = at-top-of .before in
     let head = at-if1 .before .before in
-    ends-fits _ _ _ _ _ _ (omega (arith, at-if1 .if1 .taken)) _ _ (at-begins .begins .ensures) (told-of _ _ _
-    (at-choose .choose .ensures) (c .enum-told .given .1)) (head .loop .inv)
+    ends-fits _ _ _ _ _ _ _ (head .loop .inv) _ (at-top-of .top-of .ensures) _ _ (at-begins .begins .ensures) (omega (arith, at-if1 .if1 .taken)) (told-of _ _ _ (at-choose .choose .ensures) (c .enum-told .given .1))
 
 enum-told-2 : tie.Need-enum-told-2 Inv-loop μ-loop
 enum-told-2 c = c .match .keys2
@@ -66,43 +63,42 @@ returns-2 : tie.Need-returns-2 Inv-loop μ-loop
 returns-2 c =
     let at-choose = c .before .before in
     let at-begins = at-choose .before .before in
-    let at-if1 = at-begins .before .before .before in
+    let at-top-of = at-begins .before in
+    let at-if1 = at-top-of .before in
     let head = at-if1 .before .before in
-    ends-grows _ _ _ _ _ _ (omega (arith, at-if1 .if1 .taken)) _ _ (at-begins .begins .ensures) (told-of _ _ _
-    (at-choose .choose .ensures) (c .enum-told2 .given .1)) (head .loop .inv)
+    ends-grows _ _ _ _ _ _ _ (head .loop .inv) _ (at-top-of .top-of .ensures) _ _ (at-begins .begins .ensures) (omega (arith, at-if1 .if1 .taken)) (told-of _ _ _ (at-choose .choose .ensures) (c .enum-told2 .given .1))
 
 enum-told-3 : tie.Need-enum-told-3 Inv-loop μ-loop
 enum-told-3 c = c .match .keys3
 
 dropped-requires : tie.Need-dropped-requires Inv-loop μ-loop
 dropped-requires c κs =
-    let at-if1 = c .before .before .before .before .before .before .before in
+    let at-if1 = c .before .before .before .before .before .before in
     let head = at-if1 .before .before in
     let start = head .before .before .before in
-    omega (
-      arith,
-      head .loop .inv .dropped .moves,
-      start .pre .room,
-      head .loop .inv .passed .within,
-      at-if1 .if1 .taken,
-    )
+    omega (arith, head .loop .inv .dropped .moves, start .pre .room, head .loop .inv .passed .within, at-if1 .if1 .taken)
+
+below-requires : tie.Need-below-requires Inv-loop μ-loop
+below-requires c κs = search needs
 
 loop-less : tie.Need-loop-less Inv-loop μ-loop
 loop-less c =
-    let at-if1 = c .before .before .before .before .before .before .before .before in
+    let at-dropped = c .before in
+    let at-if1 = at-dropped .before .before .before .before .before .before .before in
     let head = at-if1 .before .before in
-    subst (λ x. x .height < head .loop .d .height) (sym (c .dropped .ensures)) (omega (arith, at-if1 .if1 .taken))
+    subst (λ x. x .height < head .loop .d .height) (sym (at-dropped .dropped .ensures)) (omega (arith, at-if1 .if1 .taken))
 
 loop-again : tie.Need-loop-again Inv-loop μ-loop
 loop-again c =
-    let at-choose = c .before .before .before in
+    let at-dropped = c .before in
+    let at-enum-told3 = at-dropped .before in
+    let at-choose = at-enum-told3 .before .before in
     let at-empty = at-choose .before in
     let at-begins = at-empty .before in
-    let at-if1 = at-begins .before .before .before in
+    let at-top-of = at-begins .before in
+    let at-if1 = at-top-of .before in
     let head = at-if1 .before .before in
-    going-more _ _ _ _ _ _ _ (c .dropped .ensures) (omega (arith, at-if1 .if1 .taken)) _ _ (at-begins .begins .ensures)
-    (at-empty .empty .ensures) (told-of _ _ _ (at-choose .choose .ensures) (c .before .enum-told3 .given .1))
-    (head .loop .inv)
+    going-more _ _ _ _ _ _ _ (head .loop .inv) _ (at-top-of .top-of .ensures) _ _ (at-begins .begins .ensures) _ _ (at-dropped .dropped .ensures) (c .below .ensures) (omega (arith, at-if1 .if1 .taken)) (at-empty .empty .ensures) (told-of _ _ _ (at-choose .choose .ensures) (at-enum-told3 .enum-told3 .given .1))
 
 enum-told-4 : tie.Need-enum-told-4 Inv-loop μ-loop
 enum-told-4 c = c .match .keys4
@@ -112,12 +108,12 @@ returns-3 c =
     let at-choose = c .before .before in
     let at-empty = at-choose .before in
     let at-begins = at-empty .before in
-    let head = at-begins .before .before .before .before .before in
-    ends-stuck _ _ _ _ _ _ _ _ (at-begins .begins .ensures) (at-empty .empty .ensures) (told-of _ _ _
-    (at-choose .choose .ensures) (c .enum-told4 .given .1)) (head .loop .inv)
+    let at-top-of = at-begins .before in
+    let head = at-top-of .before .before .before in
+    ends-stuck _ _ _ _ _ _ _ (head .loop .inv) _ (at-top-of .top-of .ensures) _ _ (at-begins .begins .ensures) (at-empty .empty .ensures) (told-of _ _ _ (at-choose .choose .ensures) (c .enum-told4 .given .1))
 
 returns-4 : tie.Need-returns-4 Inv-loop μ-loop
-returns-4 c = ends-bottom _ _ _ _ _ _ (c .if1 .left) (c .before .before .loop .inv)
+returns-4 c = ends-bottom _ _ _ _ _ _ _ (c .if1 .left) (c .before .before .loop .inv)
 
 pub descend-spec : {M : Type 1} → statement M
 descend-spec =
@@ -126,9 +122,7 @@ descend-spec =
     Inv-loop
     μ-loop
     loop-holds
-    sub-at
-    mul-top
-    shared-slice-read-top
+    top-of-requires
     begins-requires
     empty-requires
     choose-requires
@@ -138,6 +132,7 @@ descend-spec =
     returns-2
     enum-told-3
     dropped-requires
+    below-requires
     loop-less
     loop-again
     enum-told-4

@@ -19,11 +19,11 @@ slice-aggregate-complete c = search needs
 
 complete-requires : tie.Need-complete-requires
 complete-requires c κs =
-    let early = c .before .before .before .before .before .before .before .before .before .before in
-    let start =
-    early .before .before .before .before .before .before .before .before .before .before .before .before .before .before in
-    let judge = early .before .before .before .before .judge in
-    let answer = c .before .before .before .before .before .before .before .answer in
+    let known = c .before .before .before .before .before .before .before .before in
+    let early = known .before .before .before .before .before .before .before in
+    let start = early .before .before .before .before .before .before .before .before .before .before .before in
+    let judge = early .judge in
+    let answer = known .answer in
     let sizes = start .pre in
     let kept = judge .kept in (
       judged-passed (judge .ensures) (answer .given .1),
@@ -34,6 +34,7 @@ complete-requires c κs =
             ∙ sizes .costs-size;
         heads-size = sizes .heads-size;
         blocks-size = sizes .blocks-size;
+        rights-size = sizes .rights-size;
       },
     )
 
@@ -55,20 +56,22 @@ same-length-4 c = search needs
 same-length-5 : tie.Need-same-length-5
 same-length-5 c = search needs
 
-returns : tie.Need-returns
-returns c =
-    let early = c .before .before .before .before .before .before .before .before .before .before in
-    let judge =
-    early .before .before .before .before .before .before .before .before .before .before .before .before .before .judge in
-    let answer = early .before .before .before .before .before .before .answer in
-    let complete = c .before .before .before .before .before .before .before .before .complete in
-    Tabled.passed (judged-passed (judge .ensures) (answer .given .1) .verdict) (complete .ensures)
-
 same-length-6 : tie.Need-same-length-6
 same-length-6 c = search needs
 
+returns : tie.Need-returns
+returns c =
+    let late = c .before .before .before .before .before .before .before .before .before .before in
+    let known = late .before .before .before .before .before .before .before .before .before in
+    let judge = known .before .before .before .before .before .before .before .judge in
+    let answer = known .answer in
+    Tabled.passed (judged-passed (judge .ensures) (answer .given .1) .verdict) (late .complete .ensures)
+
 same-length-7 : tie.Need-same-length-7
 same-length-7 c = search needs
+
+same-length-8 : tie.Need-same-length-8
+same-length-8 c = search needs
 
 returns-2 : tie.Need-returns-2
 returns-2 c =
@@ -90,7 +93,8 @@ tables-spec =
     same-length-3
     same-length-4
     same-length-5
-    returns
     same-length-6
+    returns
     same-length-7
+    same-length-8
     returns-2)

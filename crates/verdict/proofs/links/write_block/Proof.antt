@@ -1,4 +1,4 @@
--- `verdict::links::write_block` meets its contract: symbols, length and link (`block-written`).
+-- `verdict::links::write_block` meets its contract: symbols, length and link (`block-written`), and the right side as it was packed.
 use native.Mathlib.Omega.{arith}
 use mathlib.Core.Path.{sym}
 use lib.ListN.{length-set}
@@ -44,7 +44,7 @@ slice-write-blocks-2 c =
     let high = start .pre .0 .shaped .rules-high in
     let below = start .pre .1 .0 in
     let room = start .pre .1 .1 in
-    let same = write-symbols .ensures .same in
+    let same = write-symbols .ensures .0 .same in
     simp length-set (omega arith)
 
 same-length : tie.Need-same-length
@@ -57,7 +57,8 @@ returns c =
     let high = start .pre .0 .shaped .rules-high in
     let below = start .pre .1 .0 in
     let room = start .pre .1 .1 in
-    block-written (symbols-end (write-symbols .ensures) (sym (c .size-of .ensures .is))) (c .size-of .ensures) (omega arith)
+    let symbols = symbols-end (write-symbols .ensures .0) (sym (c .size-of .ensures .is)) in
+    (block-written symbols (c .size-of .ensures) (omega arith), write-symbols .ensures .1)
 
 pub write-block-spec : {M : Type 1} → statement M
 write-block-spec =
