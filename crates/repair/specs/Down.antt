@@ -101,7 +101,8 @@ module _ {ws : List ℕ} (firsts stack : List ℕ) (null : ℕ) {t : ℕ} (h : �
       (λ z. inside (passed .within) (z .0) (z .1) g)
       (w .stops)
     where
-      inside : w .height ≤ h → beginsBy firsts (getD stack (w .height - 1) 0) t ≡ false → emptyBy null (getD stack (w .height - 1) 0) ≡ false
+      inside : w .height ≤ h → beginsBy firsts (getD stack (w .height - 1) 0) t ≡ false
+          → emptyBy null (getD stack (w .height - 1) 0) ≡ false
           → First (RuleOf ws) (pile stack (w .height)) t → ⊥
       inside l b n g = below (w .height) refl g
         where

@@ -135,7 +135,8 @@ shows-packed (x ∷ β) σ small =
 -- ---- The code's steps
 
 module _ {ws ruleFirsts heads blocks rights stack rules : List ℕ} {d : Parser} {top t : ℕ}
-    (can : CanExpand ws ruleFirsts heads blocks rights stack rules d top t) (rule size : ℕ) (found : RuleFor ws top t rule) (sized : size ≡ getD blocks (16 * rule + 8) 0) where
+    (can : CanExpand ws ruleFirsts heads blocks rights stack rules d top t) (rule size : ℕ) (found : RuleFor ws top t rule)
+    (sized : size ≡ getD blocks (16 * rule + 8) 0) where
   ruled : Ruled ws (getD stack (d .height - 1) 0) t
   ruled =
       record {

@@ -54,7 +54,8 @@ module _ {log : List ℕ} where
   spanned-none =
       record { above = λ k l. absurd (omega arith); under = λ k l. absurd (omega arith); lowest = λ b l f. l; highest = λ b f. omega arith }
 
-  pub spanned-more : (i low high low′ high′ : ℕ) → low′ ≡ min low (getD log i END) → high′ ≡ max high (getD log i END) → Spanned log i low high
+  pub spanned-more : (i low high low′ high′ : ℕ) → low′ ≡ min low (getD log i END) → high′ ≡ max high (getD log i END)
+      → Spanned log i low high
       → Spanned log (i + 1) low′ high′
   spanned-more i low high low′ high′ e f w =
       record {
@@ -154,7 +155,8 @@ pub settled-log : {ws log : List ℕ} (editRoom ruleRoom : ℕ) (editBuffer rule
 unfolding SettledAs
 settled-log editRoom ruleRoom editBuffer ruleBuffer v n = Settled.before (behind-check v (Lowest.applies (fails-log n)))
 
-pub settled-run : {ws log : List ℕ} (editRoom ruleRoom : ℕ) (editBuffer ruleBuffer : List ℕ) (r : Parsing) → Verdict ws none → LogFits ws log
+pub settled-run : {ws log : List ℕ} (editRoom ruleRoom : ℕ) (editBuffer ruleBuffer : List ℕ) (r : Parsing) → Verdict ws none
+    → LogFits ws log
     → RanOf ws log editRoom ruleRoom editBuffer ruleBuffer r → SettledAs ws log editRoom ruleRoom editBuffer ruleBuffer r
 unfolding SettledAs RanOf
 settled-run editRoom ruleRoom editBuffer ruleBuffer (parsing.Counts m k l) v f x =
@@ -246,18 +248,21 @@ parsed-refused editRoom ruleRoom r editBuffer ruleBuffer editsAfter rulesAfter s
 
 -- ---- The code's steps
 
-tabled-passed : {ws firsts ruleFirsts costs heads blocks rights : List ℕ} {j : Judgement} {null : ℕ} → Tabled ws firsts ruleFirsts costs heads blocks rights j
+tabled-passed : {ws firsts ruleFirsts costs heads blocks rights : List ℕ} {j : Judgement} {null : ℕ}
+    → Tabled ws firsts ruleFirsts costs heads blocks rights j
     → j ≡ judged.Passed null → Verdict ws none × Tables ws null firsts ruleFirsts costs heads blocks rights
 tabled-passed {ws} {firsts} {ruleFirsts} {costs} {heads} {blocks} {rights} {null = null} (Tabled.passed {null = n} v t) e =
     let same : n ≡ null = cc in (v, subst (λ m. Tables ws m firsts ruleFirsts costs heads blocks rights) same t)
 tabled-passed (Tabled.refused v) e = absurd (let z : _≡_ {A = ℕ} 0 1 = cc in omega arith)
 
-tabled-refused : {ws firsts ruleFirsts costs heads blocks rights : List ℕ} {j : Judgement} {r : Refusal} → Tabled ws firsts ruleFirsts costs heads blocks rights j
+tabled-refused : {ws firsts ruleFirsts costs heads blocks rights : List ℕ} {j : Judgement} {r : Refusal}
+    → Tabled ws firsts ruleFirsts costs heads blocks rights j
     → j ≡ judged.Refused r → Verdict ws (some r)
 tabled-refused (Tabled.passed v t) e = absurd (let z : _≡_ {A = ℕ} 0 1 = cc in omega arith)
 tabled-refused {ws} {r = r} (Tabled.refused {r = q} v) e = let same : q ≡ r = cc in subst (λ m. Verdict ws (some m)) same v
 
-module _ {ws firsts ruleFirsts costs heads blocks rights : List ℕ} {j : Judgement} (t : Tabled ws firsts ruleFirsts costs heads blocks rights j) where
+module _ {ws firsts ruleFirsts costs heads blocks rights : List ℕ} {j : Judgement}
+    (t : Tabled ws firsts ruleFirsts costs heads blocks rights j) where
   pub check-refuses : (log : List ℕ) (editRoom ruleRoom : ℕ) (editBuffer ruleBuffer : List ℕ) {r : Refusal} → j ≡ judged.Refused r
       → SettledAs ws log editRoom ruleRoom editBuffer ruleBuffer (parsing.Refused r)
   check-refuses log editRoom ruleRoom editBuffer ruleBuffer e =
@@ -273,7 +278,8 @@ module _ {ws firsts ruleFirsts costs heads blocks rights : List ℕ} {j : Judgem
       log-refuses editRoom ruleRoom editBuffer ruleBuffer e =
           settled-log editRoom ruleRoom editBuffer ruleBuffer (tabled-passed t passed .0) (test .no e)
 
-      pub run-can : (stack : List ℕ) → answer ≡ true → 264 ≤ length stack → CanRun ws log null firsts ruleFirsts costs heads blocks rights stack
+      pub run-can : (stack : List ℕ) → answer ≡ true → 264 ≤ length stack
+          → CanRun ws log null firsts ruleFirsts costs heads blocks rights stack
       run-can stack e l =
           let h = tabled-passed t passed in
           record { setting = record { passes = h .0; fits = test .yes e; tables = h .1 }; cells = l }

@@ -139,7 +139,8 @@ rest-form log place l =
     drop-cons (log ++ (END ∷ [])) place 0 (omega (arith, length-append log (END ∷ [])))
     ∙ ap₂ _∷_ (token-ended log place) (ap (λ k. drop k (log ++ (END ∷ []))) (sym e))
 
-module _ {ws log : List ℕ} {null : ℕ} {firsts ruleFirsts costs heads blocks rights : List ℕ} (setting : Setting ws log null firsts ruleFirsts costs heads blocks rights)
+module _ {ws log : List ℕ} {null : ℕ} {firsts ruleFirsts costs heads blocks rights : List ℕ}
+    (setting : Setting ws log null firsts ruleFirsts costs heads blocks rights)
     {editRoom ruleRoom : ℕ} {stack edits rules : List ℕ} {p : Parser} (r : Reached ws log editRoom ruleRoom stack edits rules p) where
   words : Accepted ws
   words = accepted (setting .passes)

@@ -103,7 +103,8 @@ runs-begin {ws} {log} stack edits₀ rules₀ l e =
       shows = Shows.nothing refl;
     })
 
-module _ {ws log : List ℕ} {null : ℕ} {firsts ruleFirsts costs heads blocks rights : List ℕ} (setting : Setting ws log null firsts ruleFirsts costs heads blocks rights)
+module _ {ws log : List ℕ} {null : ℕ} {firsts ruleFirsts costs heads blocks rights : List ℕ}
+    (setting : Setting ws log null firsts ruleFirsts costs heads blocks rights)
     {stack₀ edits₀ rules₀ stack edits rules : List ℕ} {p : Parser} {window : ℕ} (r : Runs ws log stack₀ edits₀ rules₀ stack edits rules p window) where
   -- What a turn needs.
   pub turn-can : 0 < p .height → CanTurn ws log null firsts ruleFirsts costs heads blocks rights stack edits rules p window
@@ -117,7 +118,8 @@ module _ {ws log : List ℕ} {null : ℕ} {firsts ruleFirsts costs heads blocks 
         shows = r .shows;
       }
 
-  as-lent : (stack′ edits′ rules′ : List ℕ) (turn : Turned) → TurnOf ws log (length edits) (length rules) (p .moves) stack′ edits′ rules′ turn
+  as-lent : (stack′ edits′ rules′ : List ℕ) (turn : Turned)
+      → TurnOf ws log (length edits) (length rules) (p .moves) stack′ edits′ rules′ turn
       → TurnOf ws log (length edits₀) (length rules₀) (p .moves) stack′ edits′ rules′ turn
   as-lent stack′ edits′ rules′ turn t =
       subst (λ n. TurnOf ws log n (length rules₀) (p .moves) stack′ edits′ rules′ turn) (r .reached .edit-room)
@@ -138,7 +140,8 @@ module _ {ws log : List ℕ} {null : ℕ} {firsts ruleFirsts costs heads blocks 
   runs-refused stack′ edits′ rules′ {turn} t e =
       subst (λ x. TurnOf ws log (length edits₀) (length rules₀) (p .moves) stack′ edits′ rules′ x) e (as-lent stack′ edits′ rules′ turn t)
 
-  pub runs-end : p .height ≤ 0 → RanOf ws log (length edits₀) (length rules₀) edits rules (parsing.Counts (p .moves) (p .records) (p .listed))
+  pub runs-end : p .height ≤ 0
+      → RanOf ws log (length edits₀) (length rules₀) edits rules (parsing.Counts (p .moves) (p .records) (p .listed))
   unfolding RanOf wordsOf
   runs-end l =
       record {

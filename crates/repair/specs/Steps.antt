@@ -160,7 +160,8 @@ module _ {ws log : List ℕ} {editRoom ruleRoom : ℕ} {stack edits rules : List
 
 -- ---- The drops on the way down
 
-module _ {ws log : List ℕ} {null : ℕ} {firsts ruleFirsts costs heads blocks rights : List ℕ} (setting : Setting ws log null firsts ruleFirsts costs heads blocks rights)
+module _ {ws log : List ℕ} {null : ℕ} {firsts ruleFirsts costs heads blocks rights : List ℕ}
+    (setting : Setting ws log null firsts ruleFirsts costs heads blocks rights)
     {editRoom ruleRoom : ℕ} {stack edits rules : List ℕ} where
   drops : (n : ℕ) (p d : Parser) → p .height ≡ d .height + n → Reached ws log editRoom ruleRoom stack edits rules p → Dropped p d
       → Passed null firsts stack (getD log (p .place) 0) (p .height) (d .height) → 0 < d .height
@@ -178,7 +179,8 @@ module _ {ws log : List ℕ} {null : ℕ} {firsts ruleFirsts costs heads blocks 
       let next : Reached ws log editRoom ruleRoom stack edits rules (oneDrop p) =
       reached-drop r left (run .place)
       (subst (λ k. First (RuleOf ws) (pile stack k) t) (sym e) up)
-      (passed-not firsts stack null (p .height) (setting .tables .nulls) (setting .tables .first) (run .symbols) token z (p .height - 1) (omega arith) (omega arith)) in
+      (passed-not firsts stack null (p .height) (setting .tables .nulls) (setting .tables .first) (run .symbols) token z
+      (p .height - 1) (omega arith) (omega arith)) in
       drops n (oneDrop p) d (omega arith) next
       (record { place = w .place; moves = omega (arith, w .moves); records = w .records; listed = w .listed })
       (record { within = omega arith; outside = λ i a b. z .outside i a (omega arith); empty = λ i a b. z .empty i a (omega arith) })

@@ -61,7 +61,8 @@ unfolding beginsBy
 begins-terminal firsts x t l b = eqb-true x t (rw (lt-ltb x 64 l) at b)
 
 module _ {ws log : List ℕ} {null : ℕ} {firsts ruleFirsts costs heads blocks rights stack edits rules : List ℕ} {p : Parser} {window : ℕ}
-    (can : CanTurn ws log null firsts ruleFirsts costs heads blocks rights stack edits rules p window) (t : ℕ) (current : t ≡ getD log (p .place) 0) where
+    (can : CanTurn ws log null firsts ruleFirsts costs heads blocks rights stack edits rules p window) (t : ℕ)
+    (current : t ≡ getD log (p .place) 0) where
   now-running : Running ws log stack p
   now-running = running (can .setting) (can .reached) (can .some)
 
@@ -160,7 +161,8 @@ module _ {ws log : List ℕ} {null : ℕ} {firsts ruleFirsts costs heads blocks 
         room = omega (arith, moves-low (can .setting) r);
       }
 
-  pub turn-expand : {way : Way} {d : Parser} {top : ℕ} (stack′ rules′ : List ℕ) (turn : Turned) → WayOf null firsts stack t p way → way ≡ Grows d top
+  pub turn-expand : {way : Way} {d : Parser} {top : ℕ} (stack′ rules′ : List ℕ) (turn : Turned) → WayOf null firsts stack t p way
+      → way ≡ Grows d top
       → ExpandedOf ws stack rules d t stack′ rules′ turn
       → TurnOf ws log (length edits) (length rules) (p .moves) stack′ edits rules′ turn
   unfolding TurnOf ExpandedOf ruled-as
@@ -203,7 +205,8 @@ module _ {ws log : List ℕ} {null : ℕ} {firsts ruleFirsts costs heads blocks 
             );
       }
 
-  in-error : {way : Way} → WayOf null firsts stack t p way → way ≡ Stuck → First (RuleOf ws) (pile stack (p .height)) (getD log (p .place) 0) → ⊥
+  in-error : {way : Way} → WayOf null firsts stack t p way → way ≡ Stuck
+      → First (RuleOf ws) (pile stack (p .height)) (getD log (p .place) 0) → ⊥
   unfolding WayOf
   in-error w e f =
       stuck-error firsts stack null (p .height) (can .setting .tables .nulls) (can .setting .tables .first) (now-running .symbols) token refl

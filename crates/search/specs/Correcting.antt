@@ -116,10 +116,13 @@ module _ {ws log firsts costs stack : List ℕ} {p : Parser} (can : CanCorrect w
       (omega (arith, paid-bound costs σ (known .cost-limit) (p .height - 1), can .search .low))
 
   -- So a token that cannot be used is not END.
-  pub unusable-inside : (place : ℕ) → ((k : ℕ) → Plausible (grammarOf ws) (pile stack (p .height)) (getD log place 0) k → ⊥) → place < length log
+  pub unusable-inside : (place : ℕ) → ((k : ℕ) → Plausible (grammarOf ws) (pile stack (p .height)) (getD log place 0) k → ⊥)
+      → place < length log
   unusable-inside place n =
       ⊎-elim
-      (λ l. absurd (n (p .height - 1) (subst (λ t. Plausible (grammarOf ws) (pile stack (p .height)) t (p .height - 1)) (sym (token-past log place l)) end-usable)))
+      (λ l.
+      absurd (n (p .height - 1)
+      (subst (λ t. Plausible (grammarOf ws) (pile stack (p .height)) t (p .height - 1)) (sym (token-past log place l)) end-usable)))
       (λ l. l)
       (le-or-lt (length log) place)
 
@@ -202,14 +205,16 @@ module _ {ws log firsts costs stack : List ℕ} {p : Parser} (can : CanCorrect w
       }
 
   pub corrected-full : {before after : List ℕ} {q : Parser} (d : Deleted ws log stack before p q after) (r i : ℕ) {found : Search}
-      → SearchOf ws (pile stack (q .height)) (getD log (q .place) 0) (q .place) found → found ≡ search.Hit r i → length after < 3 * (q .records + i)
+      → SearchOf ws (pile stack (q .height)) (getD log (q .place) 0) (q .place) found → found ≡ search.Hit r i
+      → length after < 3 * (q .records + i)
       → CorrectedOf ws log stack before p after Full
   unfolding CorrectedOf
   corrected-full d r i s f l =
       (record { deleted = d .deleted; inserted = i; hit = correction d r i s f }, omega (arith, d .records, d .size))
 
   pub corrected-on : {before mid after : List ℕ} {q u : Parser} (d : Deleted ws log stack before p q mid) (r i : ℕ) {found : Search}
-      → SearchOf ws (pile stack (q .height)) (getD log (q .place) 0) (q .place) found → found ≡ search.Hit r i → 3 * (q .records + i) ≤ length mid
+      → SearchOf ws (pile stack (q .height)) (getD log (q .place) 0) (q .place) found → found ≡ search.Hit r i
+      → 3 * (q .records + i) ≤ length mid
       → Inserted stack mid q r i u after → CorrectedOf ws log stack before p after (On u)
   unfolding CorrectedOf SearchOf
   corrected-on {before} {mid} {after} {q} {u} d r i s f l w =
@@ -242,7 +247,8 @@ module _ {ws log firsts costs stack : List ℕ} {p : Parser} (can : CanCorrect w
 
   -- ---- What the calls need
 
-  pub seek-can : {before after : List ℕ} {q : Parser} → Deleted ws log stack before p q after → CanSearch ws log firsts costs stack (q .height)
+  pub seek-can : {before after : List ℕ} {q : Parser} → Deleted ws log stack before p q after
+      → CanSearch ws log firsts costs stack (q .height)
   seek-can d = subst (λ h. CanSearch ws log firsts costs stack h) (sym (d .height)) (can .search)
 
   pub record-can : {before after : List ℕ} {q : Parser} → Deleted ws log stack before p q after → CanRecord (q .records) (q .place)

@@ -115,7 +115,8 @@ module _ {ws firsts costs : List ℕ} (known : Known ws firsts costs) (σ : List
   small i = omega (arith, paid-bound costs σ (known .cost-limit) i)
 
   -- A symbol that begins with t, at a cost below its reliability: a correction can use t.
-  pub usable : (i : ℕ) → i < length σ → beginsBy firsts (getD σ i 0) t ≡ true → paid costs σ i < limitBy ws t → Plausible (grammarOf ws) σ t i
+  pub usable : (i : ℕ) → i < length σ → beginsBy firsts (getD σ i 0) t ≡ true → paid costs σ i < limitBy ws t
+      → Plausible (grammarOf ws) σ t i
   unfolding paid
   usable i l b m =
       record {
@@ -175,7 +176,8 @@ module _ {ws firsts costs : List ℕ} (known : Known ws firsts costs) (σ : List
 
 -- ---- The same, at the cells of the buffer, for the token at place r
 
-module _ {ws log firsts costs stack : List ℕ} {height : ℕ} (can : CanSearch ws log firsts costs stack height) (r t : ℕ) (at-r : t ≡ getD log r 0) where
+module _ {ws log firsts costs stack : List ℕ} {height : ℕ} (can : CanSearch ws log firsts costs stack height) (r t : ℕ)
+    (at-r : t ≡ getD log r 0) where
   short : length (pile stack height) ≤ 256
   short = omega (arith, pile-length stack height, can .low)
 

@@ -103,7 +103,8 @@ module _ (null : ℕ) (firsts stack : List ℕ) (t : ℕ) (p : Parser) where
   going-none window s = record { passed = passed-none null firsts stack t (p .height); dropped = dropped-none p; shows = s }
 
   -- What was tested of the top was tested of the cell.
-  module _ (d : Parser) (window : ℕ) (inv : Going null firsts stack t p d window) (x : ℕ) (top : x ≡ getD stack (d .height - 1) 0) (b e : Bool)
+  module _ (d : Parser) (window : ℕ) (inv : Going null firsts stack t p d window) (x : ℕ) (top : x ≡ getD stack (d .height - 1) 0)
+      (b e : Bool)
       (begins : b ≡ beginsBy firsts x t) where
     cell-begins : (c : Bool) → b ≡ c → beginsBy firsts (getD stack (d .height - 1) 0) t ≡ c
     cell-begins c f = ap (λ y. beginsBy firsts y t) (sym top) ∙ sym begins ∙ f
@@ -117,7 +118,8 @@ module _ (null : ℕ) (firsts stack : List ℕ) (t : ℕ) (p : Parser) where
     going-more q v r s l g told =
         subst (λ y. Going null firsts stack t p y v) (sym r)
         (record {
-          passed = passed-more null firsts stack t (p .height) (d .height) l (cell-begins false (told .0)) (cell-empty g true (told .1)) (inv .passed);
+          passed = passed-more null firsts stack t (p .height) (d .height) l (cell-begins false (told .0)) (cell-empty g true (told .1))
+              (inv .passed);
           dropped = dropped-more p d l (inv .dropped);
           shows = subst (λ y. Shows y (pile stack (d .height - 1))) (sym s) (seen-below stack (d .height) window l (inv .shows));
         })

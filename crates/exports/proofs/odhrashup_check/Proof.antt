@@ -22,7 +22,10 @@ returns : tie.Need-returns
 returns c = accepts (c .before .before .check .ensures) (ap checkOf (c .enum-told .given .1))
 
 returns-2 : tie.Need-returns-2
-returns-2 c = rejects (c .before .before .before .before .check .ensures) (ap checkOf (c .before .before .checked .given .1)) (c .refusal-number .ensures)
+returns-2 c =
+    let at-checked = c .before .before in
+    let at-check = at-checked .before .before in
+    rejects (at-check .check .ensures) (ap checkOf (at-checked .checked .given .1)) (c .refusal-number .ensures)
 
 pub odhrashup-check-spec : {M : Type 1} → statement M
 odhrashup-check-spec =

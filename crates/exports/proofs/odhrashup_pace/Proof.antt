@@ -40,7 +40,14 @@ same-length-4 : tie.Need-same-length-4
 same-length-4 c = search needs
 
 returns : tie.Need-returns
-returns c = paces (c .before .before .before .before .before .before .before .before .before .before .before .before .before .before .pace .ensures) _ _ (ap pacedOf (c .before .before .before .before .before .before .before .before .paced .given .1)) (c .before .before .before .before .before .before .before .before .before .before .before .before .before .before .before .before .before .before .before .before .before .before .before .clear .ensures) (c .before .before .before .before .before .before .before .before .before .before .before .before .before .before .before .before .before .before .before .clear-mean .ensures) (c .before .before .before .before .put-report .ensures)
+returns c =
+    let at-put-report = c .before .before .before .before in
+    let at-paced = at-put-report .before .before .before .before in
+    let at-pace = at-paced .before .before .before .before .before .before in
+    let at-clear-mean = at-pace .before .before .before .before .before in
+    let at-clear = at-clear-mean .before .before .before .before in
+    paces (at-pace .pace .ensures) _ _ (ap pacedOf (at-paced .paced .given .1)) (at-clear .clear .ensures)
+    (at-clear-mean .clear-mean .ensures) (at-put-report .put-report .ensures)
 
 same-length-5 : tie.Need-same-length-5
 same-length-5 c = search needs
@@ -55,7 +62,13 @@ same-length-8 : tie.Need-same-length-8
 same-length-8 c = search needs
 
 returns-2 : tie.Need-returns-2
-returns-2 c = paces-not (c .before .before .before .before .before .before .before .before .pace .ensures) _ _ (ap pacedOf (c .before .before .paced2 .given .1)) (c .before .before .before .before .before .before .before .before .before .before .before .before .before .before .before .before .before .clear .ensures) (c .before .before .before .before .before .before .before .before .before .before .before .before .before .clear-mean .ensures) (c .refusal-number .ensures)
+returns-2 c =
+    let at-paced2 = c .before .before in
+    let at-pace = at-paced2 .before .before .before .before .before .before in
+    let at-clear-mean = at-pace .before .before .before .before .before in
+    let at-clear = at-clear-mean .before .before .before .before in
+    paces-not (at-pace .pace .ensures) _ _ (ap pacedOf (at-paced2 .paced2 .given .1)) (at-clear .clear .ensures)
+    (at-clear-mean .clear-mean .ensures) (c .refusal-number .ensures)
 
 pub odhrashup-pace-spec : {M : Type 1} → statement M
 odhrashup-pace-spec =

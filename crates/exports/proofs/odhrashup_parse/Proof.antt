@@ -41,7 +41,15 @@ same-length-3 c = search needs
 
 returns : tie.Need-returns
 unfolding parsingOf
-returns c = parses (c .before .before .before .before .before .before .before .before .before .before .before .before .before .before .before .before .before .before .before .parse .ensures) _ (ap parsingOf (c .before .before .before .before .before .before .before .before .before .before .before .before .before .parsing .given .1)) (c .before .before .before .before .before .before .before .before .before .before .before .before .before .before .before .before .before .before .before .before .before .before .before .before .clear .ensures) (c .before .before .before .before .before .before .before .before .before .before .put .ensures) (c .before .before .before .before .before .before .put2 .ensures) (c .before .before .put3 .ensures)
+returns c =
+    let at-put3 = c .before .before in
+    let at-put2 = at-put3 .before .before .before .before in
+    let at-put = at-put2 .before .before .before .before in
+    let at-parsing = at-put .before .before .before in
+    let at-parse = at-parsing .before .before .before .before .before .before in
+    let at-clear = at-parse .before .before .before .before .before in
+    parses (at-parse .parse .ensures) _ (ap parsingOf (at-parsing .parsing .given .1)) (at-clear .clear .ensures)
+    (at-put .put .ensures) (at-put2 .put2 .ensures) (at-put3 .put3 .ensures)
 
 same-length-4 : tie.Need-same-length-4
 same-length-4 c = search needs
@@ -54,7 +62,12 @@ same-length-6 c = search needs
 
 returns-2 : tie.Need-returns-2
 unfolding parsingOf
-returns-2 c = parses-not (c .before .before .before .before .before .before .before .before .parse .ensures) _ (ap parsingOf (c .before .before .parsing2 .given .1)) (c .before .before .before .before .before .before .before .before .before .before .before .before .before .clear .ensures) (c .refusal-number .ensures)
+returns-2 c =
+    let at-parsing2 = c .before .before in
+    let at-parse = at-parsing2 .before .before .before .before .before .before in
+    let at-clear = at-parse .before .before .before .before .before in
+    parses-not (at-parse .parse .ensures) _ (ap parsingOf (at-parsing2 .parsing2 .given .1)) (at-clear .clear .ensures)
+    (c .refusal-number .ensures)
 
 pub odhrashup-parse-spec : {M : Type 1} → statement M
 odhrashup-parse-spec =

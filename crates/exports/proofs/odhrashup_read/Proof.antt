@@ -31,7 +31,12 @@ same-length-2 : tie.Need-same-length-2
 same-length-2 c = search needs
 
 returns : tie.Need-returns
-returns c = reads (c .before .before .before .before .before .before .before .before .before .read .ensures) _ (ap readingOf (c .before .before .before .before .before .reading .given .1)) (c .before .before .before .before .before .before .before .before .before .before .before .before .before .clear .ensures) (c .before .before .put .ensures)
+returns c =
+    let at-put = c .before .before in
+    let at-reading = at-put .before .before .before in
+    let at-read = at-reading .before .before .before .before in
+    let at-clear = at-read .before .before .before .before in
+    reads (at-read .read .ensures) _ (ap readingOf (at-reading .reading .given .1)) (at-clear .clear .ensures) (at-put .put .ensures)
 
 same-length-3 : tie.Need-same-length-3
 same-length-3 c = search needs
@@ -40,7 +45,12 @@ same-length-4 : tie.Need-same-length-4
 same-length-4 c = search needs
 
 returns-2 : tie.Need-returns-2
-returns-2 c = reads-not (c .before .before .before .before .before .before .read .ensures) _ (ap readingOf (c .before .before .reading2 .given .1)) (c .before .before .before .before .before .before .before .before .before .before .clear .ensures) (c .refusal-number .ensures)
+returns-2 c =
+    let at-reading2 = c .before .before in
+    let at-read = at-reading2 .before .before .before .before in
+    let at-clear = at-read .before .before .before .before in
+    reads-not (at-read .read .ensures) _ (ap readingOf (at-reading2 .reading2 .given .1)) (at-clear .clear .ensures)
+    (c .refusal-number .ensures)
 
 pub odhrashup-read-spec : {M : Type 1} → statement M
 odhrashup-read-spec =

@@ -35,7 +35,12 @@ same-length-2 c = search needs
 
 returns : tie.Need-returns
 unfolding paceFloat paceStatus
-returns c = puts (c .before .before .before .before .before .before .before .before .before .before .before .before .before .put .ensures) (c .before .before .before .before .before .before .before .before .before .put2 .ensures) (c .before .before .before .before .before .pace .given .1) refl (c .before .before .put-mean .ensures)
+returns c =
+    let at-put-mean = c .before .before in
+    let at-pace = at-put-mean .before .before .before in
+    let at-put2 = at-pace .before .before .before .before in
+    let at-put = at-put2 .before .before .before .before in
+    puts (at-put .put .ensures) (at-put2 .put2 .ensures) (at-pace .pace .given .1) refl (at-put-mean .put-mean .ensures)
 
 same-length-3 : tie.Need-same-length-3
 same-length-3 c = search needs
@@ -45,7 +50,12 @@ same-length-4 c = search needs
 
 returns-2 : tie.Need-returns-2
 unfolding paceFloat paceStatus
-returns-2 c = puts (c .before .before .before .before .before .before .before .before .before .before .before .before .put .ensures) (c .before .before .before .before .before .before .before .before .put2 .ensures) (c .before .before .before .before .enum-told .given .1) no-number (c .before .before .put-mean2 .ensures)
+returns-2 c =
+    let at-put-mean2 = c .before .before in
+    let at-enum-told = at-put-mean2 .before .before in
+    let at-put2 = at-enum-told .before .before .before .before in
+    let at-put = at-put2 .before .before .before .before in
+    puts (at-put .put .ensures) (at-put2 .put2 .ensures) (at-enum-told .enum-told .given .1) no-number (at-put-mean2 .put-mean2 .ensures)
 
 pub put-report-spec : {M : Type 1} → statement M
 put-report-spec =

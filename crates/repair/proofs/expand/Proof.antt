@@ -93,7 +93,8 @@ returns-3 c =
     let at-wide = at-if1 .before in
     let at-rule-for = at-wide .before .before in
     let start = at-rule-for .before .before .before .before .before .before .before .before .before in
-    expand-on (start .pre) _ _ (at-rule-for .rule-for .ensures) (at-wide .wide .ensures) (at-if1 .if1 .left) (at-if2 .if2 .left) (at-push .push .ensures) (c .expanded .ensures) refl
+    expand-on (start .pre) _ _ (at-rule-for .rule-for .ensures) (at-wide .wide .ensures) (at-if1 .if1 .left) (at-if2 .if2 .left)
+    (at-push .push .ensures) (c .expanded .ensures) refl
 
 pub expand-spec : {M : Type 1} → statement M
 expand-spec =

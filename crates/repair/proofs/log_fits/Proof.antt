@@ -70,7 +70,8 @@ returns-4 c =
     let at-loop-test = at-if2 .before in
     let head = at-loop-test .before in
     let at-if1 = head .before in
-    log-told (head .loop .inv .1) (at-loop-test .loop-test .left) (head .loop .inv .0) (at-if1 .if1 .left) (at-if2 .if2 .left) (c .if3 .left)
+    log-told (head .loop .inv .1) (at-loop-test .loop-test .left) (head .loop .inv .0) (at-if1 .if1 .left) (at-if2 .if2 .left)
+    (c .if3 .left)
 
 pub log-fits-spec : {M : Type 1} → statement M
 log-fits-spec =

@@ -10,10 +10,12 @@ use Rattle.repair.proofs.run.Statement.{statement}
 use Rattle.repair.proofs.run.Tie as tie
 
 abbrev Inv-loop : tie.InvT-loop
-Inv-loop words log null firsts rule-firsts costs heads blocks rights stack₀ edits₀ rules₀ p₀ window₀ stack edits rules p window = Runs words log stack₀ edits₀ rules₀ stack edits rules p window
+Inv-loop words log null firsts rule-firsts costs heads blocks rights stack₀ edits₀ rules₀ p₀ window₀ stack edits rules p window =
+    Runs words log stack₀ edits₀ rules₀ stack edits rules p window
 
 abbrev μ-loop : tie.MeasureT-loop
-μ-loop words log null firsts rule-firsts costs heads blocks rights stack₀ edits₀ rules₀ p₀ window₀ stack edits rules p window = 2101250 - p .moves
+μ-loop words log null firsts rule-firsts costs heads blocks rights stack₀ edits₀ rules₀ p₀ window₀ stack edits rules p window =
+    2101250 - p .moves
 
 slice-write-stack : tie.Need-slice-write-stack Inv-loop μ-loop
 slice-write-stack c =
@@ -49,7 +51,8 @@ loop-less c =
     let at-turn = at-turned .before .before .before .before .before .before .before .before in
     let head = at-turn .before .before .before .before .before .before in
     let start = head .before .before .before .before .before .before .before .before .before .before .before .before .before in
-    let on = runs-on (start .pre .setting) (head .loop .inv) _ _ _ (at-turn .turn .ensures) (at-turned .turned .given .1) (at-turn .turn .kept .1 .1 .1 .1 .1 .1 .1 .1 .1 .0) in
+    let on = runs-on (start .pre .setting) (head .loop .inv) _ _ _ (at-turn .turn .ensures) (at-turned .turned .given .1)
+    (at-turn .turn .kept .1 .1 .1 .1 .1 .1 .1 .1 .1 .0) in
     omega (arith, on .1, on .2)
 
 loop-again : tie.Need-loop-again Inv-loop μ-loop
@@ -58,7 +61,8 @@ loop-again c =
     let at-turn = at-turned .before .before .before .before .before .before .before .before in
     let head = at-turn .before .before .before .before .before .before in
     let start = head .before .before .before .before .before .before .before .before .before .before .before .before .before in
-    runs-on (start .pre .setting) (head .loop .inv) _ _ _ (at-turn .turn .ensures) (at-turned .turned .given .1) (at-turn .turn .kept .1 .1 .1 .1 .1 .1 .1 .1 .1 .0) .0
+    runs-on (start .pre .setting) (head .loop .inv) _ _ _ (at-turn .turn .ensures) (at-turned .turned .given .1)
+    (at-turn .turn .kept .1 .1 .1 .1 .1 .1 .1 .1 .1 .0) .0
 
 enum-known-turned-2 : tie.Need-enum-known-turned-2 Inv-loop μ-loop
 enum-known-turned-2 c = c .match .keys2

@@ -69,7 +69,8 @@ run-requires c κs =
     let at-log-fits = at-if1 .before in
     let at-judgement = at-log-fits .before .before in
     let at-tables = at-judgement .before .before .before .before .before .before .before .before in
-    run-can (at-tables .tables .ensures) (at-judgement .judgement .given .1) (at-log-fits .log-fits .ensures) _ (at-if1 .if1 .taken) (omega arith)
+    run-can (at-tables .tables .ensures) (at-judgement .judgement .given .1) (at-log-fits .log-fits .ensures) _ (at-if1 .if1 .taken)
+    (omega arith)
 
 enum-known-judgement-2 : tie.Need-enum-known-judgement-2
 enum-known-judgement-2 c = search needs
@@ -87,7 +88,8 @@ returns-2 c =
     let at-log-fits = at-if1 .before in
     let at-judgement = at-log-fits .before .before in
     let at-tables = at-judgement .before .before .before .before .before .before .before .before in
-    run-settles (at-tables .tables .ensures) (at-judgement .judgement .given .1) (at-log-fits .log-fits .ensures) _ _ _ _ (at-run .run .result) (at-if1 .if1 .taken) (at-run .run .ensures)
+    run-settles (at-tables .tables .ensures) (at-judgement .judgement .given .1) (at-log-fits .log-fits .ensures) _ _ _ _
+    (at-run .run .result) (at-if1 .if1 .taken) (at-run .run .ensures)
 
 returns-3 : tie.Need-returns-3
 returns-3 c =

@@ -64,7 +64,8 @@ returns c =
     let at-descend = at-way .before .before in
     let at-token-at = at-descend .before .before in
     let start = at-token-at .before .before .before .before .before .before .before .before .before .before .before .before in
-    turn-match (start .pre) _ (at-token-at .token-at .ensures) (at-descend .descend .ensures) (at-way .way .given .1) (at-matched .matched .ensures) (c .below .ensures)
+    turn-match (start .pre) _ (at-token-at .token-at .ensures) (at-descend .descend .ensures) (at-way .way .given .1)
+    (at-matched .matched .ensures) (c .below .ensures)
 
 same-length-2 : tie.Need-same-length-2
 same-length-2 c = search needs
@@ -79,7 +80,8 @@ returns-2 c =
     let at-descend = at-way2 .before .before in
     let at-token-at = at-descend .before .before in
     let start = at-token-at .before .before .before .before .before .before .before .before .before .before .before .before in
-    turn-expand (start .pre) _ (at-token-at .token-at .ensures) _ _ (at-expand .expand .result) (at-descend .descend .ensures) (at-way2 .way2 .given .1) (at-expand .expand .ensures)
+    turn-expand (start .pre) _ (at-token-at .token-at .ensures) _ _ (at-expand .expand .result) (at-descend .descend .ensures)
+    (at-way2 .way2 .given .1) (at-expand .expand .ensures)
 
 same-length-4 : tie.Need-same-length-4
 same-length-4 c = search needs
@@ -95,7 +97,8 @@ returns-3 c =
     let at-descend = at-enum-told .before .before in
     let at-token-at = at-descend .before .before in
     let start = at-token-at .before .before .before .before .before .before .before .before .before .before .before .before in
-    turn-correct (start .pre) _ (at-token-at .token-at .ensures) _ (at-descend .descend .ensures) (at-enum-told .enum-told .given .1) (at-correct .correct .ensures) (at-corrected .corrected .given .1)
+    turn-correct (start .pre) _ (at-token-at .token-at .ensures) _ (at-descend .descend .ensures)
+    (at-enum-told .enum-told .given .1) (at-correct .correct .ensures) (at-corrected .corrected .given .1)
 
 same-length-6 : tie.Need-same-length-6
 same-length-6 c = search needs
@@ -110,7 +113,8 @@ returns-4 c =
     let at-descend = at-enum-told .before .before in
     let at-token-at = at-descend .before .before in
     let start = at-token-at .before .before .before .before .before .before .before .before .before .before .before .before in
-    turn-full (start .pre) _ (at-token-at .token-at .ensures) _ (at-descend .descend .ensures) (at-enum-told .enum-told .given .1) (at-correct .correct .ensures) (c .enum-told2 .given .1)
+    turn-full (start .pre) _ (at-token-at .token-at .ensures) _ (at-descend .descend .ensures) (at-enum-told .enum-told .given .1)
+    (at-correct .correct .ensures) (c .enum-told2 .given .1)
 
 pub turn-spec : {M : Type 1} → statement M
 turn-spec =

@@ -54,7 +54,8 @@ returns c =
     let at-top-of = at-begins .before in
     let at-if1 = at-top-of .before in
     let head = at-if1 .before .before in
-    ends-fits _ _ _ _ _ _ _ (head .loop .inv) _ (at-top-of .top-of .ensures) _ _ (at-begins .begins .ensures) (omega (arith, at-if1 .if1 .taken)) (told-of _ _ _ (at-choose .choose .ensures) (c .enum-told .given .1))
+    ends-fits _ _ _ _ _ _ _ (head .loop .inv) _ (at-top-of .top-of .ensures) _ _ (at-begins .begins .ensures)
+    (omega (arith, at-if1 .if1 .taken)) (told-of _ _ _ (at-choose .choose .ensures) (c .enum-told .given .1))
 
 enum-told-2 : tie.Need-enum-told-2 Inv-loop μ-loop
 enum-told-2 c = c .match .keys2
@@ -66,7 +67,8 @@ returns-2 c =
     let at-top-of = at-begins .before in
     let at-if1 = at-top-of .before in
     let head = at-if1 .before .before in
-    ends-grows _ _ _ _ _ _ _ (head .loop .inv) _ (at-top-of .top-of .ensures) _ _ (at-begins .begins .ensures) (omega (arith, at-if1 .if1 .taken)) (told-of _ _ _ (at-choose .choose .ensures) (c .enum-told2 .given .1))
+    ends-grows _ _ _ _ _ _ _ (head .loop .inv) _ (at-top-of .top-of .ensures) _ _ (at-begins .begins .ensures)
+    (omega (arith, at-if1 .if1 .taken)) (told-of _ _ _ (at-choose .choose .ensures) (c .enum-told2 .given .1))
 
 enum-told-3 : tie.Need-enum-told-3 Inv-loop μ-loop
 enum-told-3 c = c .match .keys3
@@ -98,7 +100,9 @@ loop-again c =
     let at-top-of = at-begins .before in
     let at-if1 = at-top-of .before in
     let head = at-if1 .before .before in
-    going-more _ _ _ _ _ _ _ (head .loop .inv) _ (at-top-of .top-of .ensures) _ _ (at-begins .begins .ensures) _ _ (at-dropped .dropped .ensures) (c .below .ensures) (omega (arith, at-if1 .if1 .taken)) (at-empty .empty .ensures) (told-of _ _ _ (at-choose .choose .ensures) (at-enum-told3 .enum-told3 .given .1))
+    going-more _ _ _ _ _ _ _ (head .loop .inv) _ (at-top-of .top-of .ensures) _ _ (at-begins .begins .ensures) _ _
+    (at-dropped .dropped .ensures) (c .below .ensures) (omega (arith, at-if1 .if1 .taken)) (at-empty .empty .ensures)
+    (told-of _ _ _ (at-choose .choose .ensures) (at-enum-told3 .enum-told3 .given .1))
 
 enum-told-4 : tie.Need-enum-told-4 Inv-loop μ-loop
 enum-told-4 c = c .match .keys4
@@ -110,7 +114,8 @@ returns-3 c =
     let at-begins = at-empty .before in
     let at-top-of = at-begins .before in
     let head = at-top-of .before .before .before in
-    ends-stuck _ _ _ _ _ _ _ (head .loop .inv) _ (at-top-of .top-of .ensures) _ _ (at-begins .begins .ensures) (at-empty .empty .ensures) (told-of _ _ _ (at-choose .choose .ensures) (c .enum-told4 .given .1))
+    ends-stuck _ _ _ _ _ _ _ (head .loop .inv) _ (at-top-of .top-of .ensures) _ _ (at-begins .begins .ensures)
+    (at-empty .empty .ensures) (told-of _ _ _ (at-choose .choose .ensures) (c .enum-told4 .given .1))
 
 returns-4 : tie.Need-returns-4 Inv-loop μ-loop
 returns-4 c = ends-bottom _ _ _ _ _ _ _ (c .if1 .left) (c .before .before .loop .inv)
