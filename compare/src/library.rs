@@ -9,7 +9,7 @@ use std::io::{BufRead, BufReader, BufWriter, Read, Write};
 use std::process::{Child, ChildStdin, ChildStdout, Command, Stdio};
 
 /// The status of an idle station.
-const IDLE: u32 = 1_000;
+pub(crate) const IDLE: u32 = 1_000;
 
 /// A process that is asked on its standard input and answers on its standard output.
 struct Asked {

@@ -2,9 +2,7 @@
 //! `bench` builds with the feature `linked` and says where the library is.
 
 use crate::answer::{Implementation, Pace, Parsed, Refusal, Report};
-
-/// The status of an idle station.
-const IDLE: u32 = 1_000;
+use crate::library::IDLE;
 
 extern "C" {
     fn odhrashup_read(
