@@ -3,6 +3,7 @@ use Prim.Native.Nat.{ℕ}
 use mathlib.Core.Path.{_≡_, refl, sym, subst, subst₂}
 use mathlib.Core.Bool.{Bool, true, false}
 use mathlib.Core.List.{List}
+use native.Mathlib.Omega.{arith}
 use lib.ListN.{length}
 use lib.Dec.{eqb}
 use borrow.Author.Tests.{eqb-true, eqb-false}
@@ -14,28 +15,48 @@ use Rattle.grammar.specs.declared.Refusal.{Refusal}
 use Rattle.grammar.specs.declared.Refusal.the-variants.{BadLog}
 use Rattle.grammar.specs.declared.Report.{Report}
 use Rattle.grammar.specs.theory.Counted.{parsed-lengths}
-use Rattle.pace.specs.Answer.{Left, lowestOf}
+use Rattle.pace.specs.Answer.{Accounted, Left, countsAre, lowestOf}
 use Rattle.pace.specs.Settling.{parsed-whole, whole-lent, timed-ended, untimed-ended, timed-refused, untimed-refused}
 use Rattle.pace.specs.Watch.{Lent, Finds}
+use Rattle.pace.specs.declared.Account.{Account}
+use Rattle.pace.specs.declared.Account.the-variants as Account
 
-module _ {ws log x y : List ℕ} {records : ℕ} (left : Left ws log x y records) where
+-- Equal answers with counts have equal counts.
+account-counts : {r s : Report} {m e l n f k : ℕ} → Account.Reported r m e l ≡ Account.Reported s n f k
+    → countsAre m e l ≡ countsAre n f k
+account-counts same = cc
+
+-- An equal answer of the parse.
+parsed-by : {ws log : List ℕ} {editRoom ruleRoom : ℕ} {a b : Outcome Counts} {x y : List ℕ}
+    → Parsed ws log editRoom ruleRoom a x y → a ≡ b → Parsed ws log editRoom ruleRoom b x y
+parsed-by {ws} {log} {editRoom} {ruleRoom} {x = x} {y = y} p e = subst (λ o. Parsed ws log editRoom ruleRoom o x y) e p
+
+-- A refusal with the report's buffers is an account: it has no counts.
+refused-account : {ws log ticks : List ℕ} {editRoom ruleRoom : ℕ} {r : Refusal} {x y : List ℕ}
+    → Reported ws log ticks editRoom ruleRoom (refused r) x y
+    → Accounted ws log ticks editRoom ruleRoom (Account.Refused r) x y
+refused-account reported = record { reported = reported; parsed = λ e. absurd (let z : _≡_ {A = ℕ} 0 1 = cc in omega arith) }
+
+module _ {ws log : List ℕ} {moves records listed : ℕ} {x y : List ℕ} (left : Left ws log moves records listed x y) where
   -- The run ended, and ticks and tokens are as many: the cycles can be found,
   pub left-lent : {ticks : List ℕ} → length ticks ≡ length log → Lent ws log ticks x records
-  left-lent {ticks} t =
-      subst (λ (n : ℕ). Lent ws log ticks x n) (sym (left .counted)) (whole-lent (parsed-whole (left .parsed)) t)
+  left-lent t = whole-lent (parsed-whole left) t
 
-  -- and they make the report.
+  -- and they make the report, beside the parse's counts.
   pub left-report : {ticks : List ℕ} {report : Report} → length ticks ≡ length log → Finds ws log ticks x records report
-      → Reported ws log ticks (length x) (length y) (given report) x y
-  left-report {ticks} {report} t found =
-      timed-ended (parsed-whole (left .parsed)) t (subst (λ (n : ℕ). Finds ws log ticks x n report) (left .counted) found)
+      → Accounted ws log ticks (length x) (length y) (Account.Reported report moves records listed) x y
+  left-report t found =
+      record {
+        reported = timed-ended (parsed-whole left) t found;
+        parsed = λ same. parsed-by left (account-counts same);
+      }
 
   -- They differ in number: refusal 10 and cleared buffers.
   pub left-untimed : {ticks u v : List ℕ} → (length ticks ≡ length log → ⊥) → u ≡ cleared (length x) → v ≡ cleared (length y)
-      → Reported ws log ticks (length x) (length y) (refused BadLog) u v
+      → Accounted ws log ticks (length x) (length y) (Account.Refused BadLog) u v
   left-untimed {ticks} n e f =
-      subst₂ (λ u v. Reported ws log ticks (length x) (length y) (refused BadLog) u v) (sym e) (sym f)
-      (untimed-ended (parsed-whole (left .parsed)) n)
+      subst₂ (λ u v. Accounted ws log ticks (length x) (length y) (Account.Refused BadLog) u v) (sym e) (sym f)
+      (refused-account (untimed-ended (parsed-whole left) n))
 
 -- ---- From the parse's own answer a
 
@@ -48,27 +69,23 @@ by-ticks {log = log} {ticks = ticks} false e p = untimed-refused (eqb-false (len
 module _ {ws log : List ℕ} {editRoom ruleRoom : ℕ} {a : Outcome Counts} {x y : List ℕ}
     (parsed : Parsed ws log editRoom ruleRoom a x y) where
   -- Its run ended.
-  pub ended-left : {counts : Counts} → a ≡ given counts → Left ws log x y (counts .records)
-  ended-left {counts} e =
+  pub ended-left : {moves records listed : ℕ} → a ≡ countsAre moves records listed → Left ws log moves records listed x y
+  ended-left {moves} {records} {listed} e =
       let lengths = parsed-lengths parsed in
-      record {
-        counts = counts;
-        parsed =
-            subst₂ (λ m n. Parsed ws log m n (given counts) x y) (sym (lengths .0)) (sym (lengths .1))
-            (subst (λ o. Parsed ws log editRoom ruleRoom o x y) e parsed);
-        counted = refl;
-      }
+      subst₂ (λ m n. Parsed ws log m n (countsAre moves records listed) x y) (sym (lengths .0)) (sym (lengths .1))
+      (parsed-by parsed e)
 
   -- The buffers are as long as they were lent.
-  pub ended-report : {ticks : List ℕ} {b : Outcome Report} {u v : List ℕ} → Reported ws log ticks (length x) (length y) b u v
-      → Reported ws log ticks editRoom ruleRoom b u v
-  ended-report {ticks} {b} {u} {v} reported =
+  pub ended-report : {ticks : List ℕ} {b : Account} {u v : List ℕ} → Accounted ws log ticks (length x) (length y) b u v
+      → Accounted ws log ticks editRoom ruleRoom b u v
+  ended-report {ticks} {b} {u} {v} account =
       let lengths = parsed-lengths parsed in
-      subst₂ (λ m n. Reported ws log ticks m n b u v) (lengths .0) (lengths .1) reported
+      subst₂ (λ m n. Accounted ws log ticks m n b u v) (lengths .0) (lengths .1) account
 
   -- It was refused.
   pub refused-report : (ticks : List ℕ) {q r : Refusal} → a ≡ refused q → r ≡ lowestOf q (eqb (length ticks) (length log))
-      → Reported ws log ticks editRoom ruleRoom (refused r) x y
+      → Accounted ws log ticks editRoom ruleRoom (Account.Refused r) x y
   refused-report ticks {q} {r} e f =
-      subst (λ z. Reported ws log ticks editRoom ruleRoom (refused z) x y) (sym f)
-      (by-ticks (eqb (length ticks) (length log)) refl (subst (λ o. Parsed ws log editRoom ruleRoom o x y) e parsed))
+      refused-account
+      (subst (λ z. Reported ws log ticks editRoom ruleRoom (refused z) x y) (sym f)
+      (by-ticks (eqb (length ticks) (length log)) refl (parsed-by parsed e)))

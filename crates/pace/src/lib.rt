@@ -5,7 +5,7 @@ ghost use Prim.Native.Nat.{_+_, _*_, _≤_, _<_};
 ghost use lib.ListN.{length};
 ghost use Rattle.grammar.specs.Buffers.{cleared};
 ghost use Rattle.grammar.specs.Pace.{Reported, paceOf, unitMs, wrapped};
-ghost use Rattle.pace.specs.Answer.{Left, lowestOf, pacedOf};
+ghost use Rattle.pace.specs.Answer.{Accounted, Left, lowestOf, pacedOf};
 ghost use Rattle.pace.specs.Watch.{
   Cursor,
   Finds,
@@ -27,6 +27,13 @@ use repair::Parsing;
 // The answer: the report, or a refusal. `pacedOf` of specs/Answer.antt says what each stands for.
 pub enum Paced {
     Reported(Report),
+    Refused(Refusal),
+}
+
+// The same answer with the counts of its parse: moves, edit records and rule numbers listed. `Accounted` of specs/Answer.antt
+// says what each stands for.
+pub enum Account {
+    Reported(Report, usize, usize, usize),
     Refused(Refusal),
 }
 
@@ -75,10 +82,30 @@ pub fn pace(
     ensures { λ r. ⌜ Reported (now (words .entry)) (now (log .entry)) (now (ticks .entry)) (length (now (edits .entry)))
         (length (now (rules .entry))) (pacedOf r) (now (edits .exit)) (now (rules .exit)) ⌝ }
 {
+    let account = report(words, log, ticks, edits, rules);
+    match account {
+        Account::Reported(told, _, _, _) => Paced::Reported(told),
+        Account::Refused(refusal) => Paced::Refused(refusal),
+    }
+}
+
+// The same with the counts of the parse, for a caller that needs both.
+pub fn report(
+    words: &[u16],
+    log: &[u16],
+    ticks: &[u32],
+    edits: &mut [u16],
+    rules: &mut [u16],
+) -> Account
+    ensures { λ r. ⌜ Accounted (now (words .entry)) (now (log .entry)) (now (ticks .entry)) (length (now (edits .entry)))
+        (length (now (rules .entry))) r (now (edits .exit)) (now (rules .exit)) ⌝ }
+{
     let parsing = repair::parse(words, log, edits, rules);
     match parsing {
-        Parsing::Counts(_, records, _) => ended(words, log, ticks, edits, rules, records),
-        Parsing::Refused(refusal) => Paced::Refused(lowest(refusal, ticks.len() == log.len())),
+        Parsing::Counts(moves, records, listed) => {
+            ended(words, log, ticks, edits, rules, moves, records, listed)
+        }
+        Parsing::Refused(refusal) => Account::Refused(lowest(refusal, ticks.len() == log.len())),
     }
 }
 
@@ -106,18 +133,21 @@ fn ended(
     ticks: &[u32],
     edits: &mut [u16],
     rules: &mut [u16],
+    moves: usize,
     records: usize,
-) -> Paced
-    requires { ⌜ Left (now words) (now log) (now edits) (now rules) records ⌝ }
-    ensures { λ r. ⌜ Reported (now (words .entry)) (now (log .entry)) (now (ticks .entry)) (length (now (edits .entry)))
-        (length (now (rules .entry))) (pacedOf r) (now (edits .exit)) (now (rules .exit)) ⌝ }
+    listed: usize,
+) -> Account
+    requires { ⌜ Left (now words) (now log) moves records listed (now edits) (now rules) ⌝ }
+    ensures { λ r. ⌜ Accounted (now (words .entry)) (now (log .entry)) (now (ticks .entry)) (length (now (edits .entry)))
+        (length (now (rules .entry))) r (now (edits .exit)) (now (rules .exit)) ⌝ }
 {
     if ticks.len() != log.len() {
         clear(edits);
         clear(rules);
-        return Paced::Refused(Refusal::BadLog);
+        return Account::Refused(Refusal::BadLog);
     }
-    Paced::Reported(cycles(words, log, ticks, edits, records))
+    let told = cycles(words, log, ticks, edits, records);
+    Account::Reported(told, moves, records, listed)
 }
 
 // Makes every word of the buffer zero.

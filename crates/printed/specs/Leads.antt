@@ -10,8 +10,8 @@ use lib.Seq.{take-at, take-all, length-take-le}
 use Rattle.grammar.specs.Buffers.{filled}
 use Rattle.grammar.specs.File.{FileRead, fileWords}
 use Rattle.grammar.specs.Moves.{Move, Edit, edits, editWords, ruleNumbers}
-use Rattle.grammar.specs.Run.{ParseMeets, parseRefusals, RunOf, Settled, Counts, countsOf, Parsed, editsLeft, answered}
-use Rattle.grammar.specs.Pace.{PaceMeets, Reports, Reported}
+use Rattle.grammar.specs.Run.{Counts, countsOf, Parsed, editsLeft, answered}
+use Rattle.grammar.specs.Pace.{Reports, Reported}
 use Rattle.grammar.specs.Refusals.{Outcome, given, refused}
 use Rattle.grammar.specs.Listing.{
   Counted,
@@ -27,10 +27,8 @@ use Rattle.grammar.specs.Listing.{
 }
 use Rattle.grammar.specs.declared.Refusal.{Refusal}
 use Rattle.grammar.specs.declared.Report.{Report}
-use Rattle.grammar.specs.theory.Answers.{runs-determined}
-use Rattle.grammar.specs.theory.Determined.{some-none, lowest-unique}
 use Rattle.printed.specs.Answer.{recordsOf}
-use Rattle.printed.specs.Runs.{given-refused, given-same, Ended, ended, same-moves, parse-met, pace-admitted}
+use Rattle.printed.specs.Runs.{given-refused, given-same, ended, same-moves, pace-admitted}
 use Rattle.printed.specs.Enough.{entries-length, reported-front}
 
 -- The words of records hold those records.
@@ -82,19 +80,6 @@ same-lines n ms report counts buffer e f =
     ∙ (ap (λ (b : List ℕ). recordsOf (take (3 * length (edits ms)) b)) f
     ∙ (ap recordsOf (front-words 24576 (edits ms)) ∙ records-of-words (edits ms))) in
     cc
-
--- A parse of what was reported is not refused.
-never-refused : {ws log ticks : List ℕ} {editRoom ruleRoom : ℕ} {ms : List Move} {o : Outcome (List Move)} {r : Refusal}
-    → Ended (PaceMeets ws log ticks) parseRefusals (RunOf ws log editRoom ruleRoom) ms
-    → Settled (ParseMeets ws log) parseRefusals (RunOf ws log editRoom ruleRoom) o → refused r ≡ answered o → ⊥
-unfolding answered
-never-refused e (Settled.whole l run) f = given-refused refl (sym f)
-never-refused e (Settled.before l) f = some-none refl (lowest-unique (parse-met (e .met)) l)
-never-refused e (Settled.within l run) f = some-none refl (runs-determined (pace-admitted (e .met)) (e .run) run .outcome)
-
-pub parsed-too : {ws log ticks x y u v : List ℕ} {editRoom ruleRoom : ℕ} {report : Report} {r : Refusal}
-    → Reported ws log ticks editRoom ruleRoom (given report) y v → Parsed ws log editRoom ruleRoom (refused r) x u → ⊥
-parsed-too q p = never-refused (ended (q .settled) (reported-moves (q .reports) refl .ends)) (p .settled) (p .answers)
 
 -- The parse's counts and edit buffer, and the report, give the listing.
 prints-listing : {input words x y u v : List ℕ} {n : ℕ} {counts : Counts} {report : Report} → Counted input

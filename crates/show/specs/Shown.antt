@@ -6,11 +6,8 @@ use mathlib.Core.List.{List}
 use lib.ListN.{length, take}
 use Rattle.grammar.specs.File.{FileRead}
 use Rattle.grammar.specs.Refusals.{Outcome, given, refused}
-use Rattle.grammar.specs.Run.{Counts, Parsed}
-use Rattle.grammar.specs.Pace.{Reported}
 use Rattle.grammar.specs.Listing.{Counted, Printed, fileOf, blocksEnd, refusedLine, tokensFrom, ticksFrom}
 use Rattle.grammar.specs.declared.Refusal.{Refusal}
-use Rattle.grammar.specs.declared.Report.{Report}
 use Rattle.printed.specs.Answer.{Wrote, InputCounted, counted, uncounted}
 use Rattle.printed.specs.Runs.{given-refused, given-same, refused-same}
 use Rattle.printed.specs.Sizes.{wrote-whole, wrote-front, wrote-part}
@@ -80,16 +77,6 @@ kept-log {input} {end = end} c e w a b p q =
       times = wrote-front q ∙ (ap (λ (k : ℕ). take k (ticksFrom input end)) b ∙ ap (λ (k : ℕ). take 4097 (ticksFrom input k)) e);
     }
 
-pub reported-as : {ws log ticks x y : List ℕ} {editRoom ruleRoom : ℕ} {o a : Outcome Report}
-    → Reported ws log ticks editRoom ruleRoom o x y → o ≡ a → Reported ws log ticks editRoom ruleRoom a x y
-reported-as {ws} {log} {ticks} {x} {y} {editRoom} {ruleRoom} p e = subst (λ (o : Outcome Report). Reported ws log ticks editRoom ruleRoom o x y) e p
-
-pub parsed-as : {ws log x y : List ℕ} {editRoom ruleRoom : ℕ} {o a : Outcome Counts} → Parsed ws log editRoom ruleRoom o x y → editRoom ≡ 24576
-    → ruleRoom ≡ 16384 → o ≡ a → Parsed ws log 24576 16384 a x y
-parsed-as {ws} {log} {x} {y} {editRoom} {ruleRoom} {o} {a} p b c e =
-    subst (λ (k : ℕ). Parsed ws log k 16384 a x y) b
-    (subst (λ (k : ℕ). Parsed ws log editRoom k a x y) c (subst (λ (q : Outcome Counts). Parsed ws log editRoom ruleRoom q x y) e p))
-
 -- The listing of records in the front of 24,576 words fits.
-pub fits-front : {k n m part : ℕ} → part ≡ k → k ≤ n → n ≡ 24576 → 155817 ≤ m → 19 * (part / 3) + 169 ≤ m
-fits-front a b c d = omega arith
+pub fits-front : {k n m part size : ℕ} → size ≤ 19 * (part / 3) + 169 → part ≡ k → k ≤ n → n ≡ 24576 → 155817 ≤ m → size ≤ m
+fits-front s a b c d = omega arith

@@ -7,9 +7,8 @@ ghost use Rattle.grammar.specs.Listing.{Counted, blocksEnd};
 ghost use Rattle.printed.specs.Leads.{Kept};
 ghost use Rattle.show.specs.Shown.{Shown, WordsRead};
 use blocks::Reading;
-use pace::Paced;
+use pace::Account;
 use printed::Blocks;
-use repair::Parsing;
 
 // Puts the listing of the input in front of the buffer, and gives its length.
 pub fn show(input: &[u8], out: &mut [u8]) -> usize
@@ -61,18 +60,12 @@ fn show_run(input: &[u8], words: &[u16], log: &[u16], ticks: &[u32], out: &mut [
 {
     let mut edits = [0u16; 24576];
     let mut rules = [0u16; 16384];
-    let paced = pace::pace(words, log, ticks, &mut edits, &mut rules);
-    match paced {
-        Paced::Refused(refusal) => printed::refused(refusal, out),
-        Paced::Reported(report) => {
-            let parsing = repair::parse(words, log, &mut edits, &mut rules);
-            match parsing {
-                Parsing::Refused(refusal) => printed::refused(refusal, out),
-                Parsing::Counts(moves, records, listed) => {
-                    let end = 3 * records;
-                    printed::listed(log.len(), moves, &edits[..end], listed, report, out)
-                }
-            }
+    let account = pace::report(words, log, ticks, &mut edits, &mut rules);
+    match account {
+        Account::Refused(refusal) => printed::refused(refusal, out),
+        Account::Reported(report, moves, records, listed) => {
+            let end = 3 * records;
+            printed::listed(log.len(), moves, &edits[..end], listed, report, out)
         }
     }
 }

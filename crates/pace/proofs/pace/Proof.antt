@@ -1,29 +1,17 @@
--- `pace::pace` meets its contract: the parse's answer leads to the report's (`Answering`).
-use mathlib.Core.Path.{ap}
+-- `pace::pace` meets its contract: the answer with counts is the report's (`account-report`).
 use borrow.Author.Needs.{needs}
-use Rattle.repair.specs.Runs.{parsingOf}
-use Rattle.pace.proofs.Answering.{ended-left, ended-report, refused-report}
+use Rattle.pace.specs.Answer.{account-report}
 use Rattle.pace.proofs.pace.Statement.{statement}
 use Rattle.pace.proofs.pace.Tie as tie
 
-parse-requires : tie.Need-parse-requires
-parse-requires c κs = search needs
+report-requires : tie.Need-report-requires
+report-requires c κs = search needs
 
-enum-known-parsing : tie.Need-enum-known-parsing
-enum-known-parsing c = search needs
+enum-known-account : tie.Need-enum-known-account
+enum-known-account c = search needs
 
-ended-requires : tie.Need-ended-requires
-unfolding parsingOf
-ended-requires c κs =
-    let told = c .before .before .before in
-    let parsed = told .before .before .before .before .before .before in
-    ended-left (parsed .parse .ensures) (ap parsingOf (told .parsing .given .1))
-
-enum-known-parsing-2 : tie.Need-enum-known-parsing-2
-enum-known-parsing-2 c = search needs
-
-lowest-requires : tie.Need-lowest-requires
-lowest-requires c κs = search needs
+enum-known-account-2 : tie.Need-enum-known-account-2
+enum-known-account-2 c = search needs
 
 same-length : tie.Need-same-length
 same-length c = search needs
@@ -33,9 +21,8 @@ same-length-2 c = search needs
 
 returns : tie.Need-returns
 returns c =
-    let answered = c .before .before .before .before in
-    let parsed = answered .before .before .before .before .before .before .before .before .before .before in
-    ended-report (parsed .parse .ensures) (answered .ended .ensures)
+    let told = c .before in
+    account-report (told .before .before .before .before .before .before .report .ensures) (told .account .given .1)
 
 same-length-3 : tie.Need-same-length-3
 same-length-3 c = search needs
@@ -44,21 +31,17 @@ same-length-4 : tie.Need-same-length-4
 same-length-4 c = search needs
 
 returns-2 : tie.Need-returns-2
-unfolding parsingOf
 returns-2 c =
-    let told = c .before .before in
-    let parsed = told .before .before .before .before .before .before in
-    refused-report (parsed .parse .ensures) _ (ap parsingOf (told .parsing2 .given .1)) (c .lowest .ensures)
+    let told = c .before in
+    account-report (told .before .before .before .before .before .before .report .ensures) (told .account2 .given .1)
 
 pub pace-spec : {M : Type 1} → statement M
 pace-spec =
     tie.close
     (tie.spec
-    parse-requires
-    enum-known-parsing
-    ended-requires
-    enum-known-parsing-2
-    lowest-requires
+    report-requires
+    enum-known-account
+    enum-known-account-2
     same-length
     same-length-2
     returns

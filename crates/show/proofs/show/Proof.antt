@@ -17,8 +17,11 @@ enum-known-counted c = search needs
 
 show-file-requires : tie.Need-show-file-requires
 show-file-requires c κs =
-    let right = input-counted (c .before .before .before .before .blocks-of .ensures) (ap blocksOf (c .before .before .counted .given .1)) in
-    (c .before .before .before .before .before .before .before .pre, (right .0, right .1))
+    let at-counted = c .before .before in
+    let at-blocks-of = at-counted .before .before in
+    let start = at-blocks-of .before .before .before in
+    let right = input-counted (at-blocks-of .blocks-of .ensures) (ap blocksOf (at-counted .counted .given .1)) in
+    (start .pre, (right .0, right .1))
 
 enum-known-counted-2 : tie.Need-enum-known-counted-2
 enum-known-counted-2 c = search needs
@@ -37,8 +40,13 @@ same-length-2 c = search needs
 
 returns-2 : tie.Need-returns-2
 returns-2 c =
-    let room = c .before .before .before .before .before .before .before .before .before .before .pre in
-    shown (input-refused (c .before .before .before .before .before .before .before .blocks-of .ensures) (ap blocksOf (c .before .before .before .before .before .counted2 .given .1))) (c .before .before .refused .ensures) (omega (arith, refused-length (c .before .before .before .before .before .counted2 .given .0 .0)))
+    let at-refused = c .before .before in
+    let at-counted2 = at-refused .before .before .before in
+    let at-blocks-of = at-counted2 .before .before in
+    let start = at-blocks-of .before .before .before in
+    let room = start .pre in
+    shown (input-refused (at-blocks-of .blocks-of .ensures) (ap blocksOf (at-counted2 .counted2 .given .1)))
+    (at-refused .refused .ensures) (omega (arith, refused-length (at-counted2 .counted2 .given .0 .0)))
 
 pub show-spec : {M : Type 1} → statement M
 show-spec =

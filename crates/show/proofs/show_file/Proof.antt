@@ -24,13 +24,24 @@ enum-known-reading : tie.Need-enum-known-reading
 enum-known-reading c = search needs
 
 array-share-prefix-words : tie.Need-array-share-prefix-words
-array-share-prefix-words c = read-part (c .before .before .before .before .read .ensures) (ap readingOf (c .before .reading .given .1))
+array-share-prefix-words c =
+    let at-reading = c .before in
+    let at-read = at-reading .before .before .before in
+    read-part (at-read .read .ensures) (ap readingOf (at-reading .reading .given .1))
 
 slice-aggregate-show-log : tie.Need-slice-aggregate-show-log
-slice-aggregate-show-log c = sym (length-take-le _ _ (read-part (c .before .before .before .before .before .read .ensures) (ap readingOf (c .before .before .reading .given .1))))
+slice-aggregate-show-log c =
+    let at-reading = c .before .before in
+    let at-read = at-reading .before .before .before in
+    sym (length-take-le _ _ (read-part (at-read .read .ensures) (ap readingOf (at-reading .reading .given .1))))
 
 show-log-requires : tie.Need-show-log-requires
-show-log-requires c κs = (c .before .before .before .before .before .before .before .before .before .before .before .pre .0, (c .before .before .before .before .before .before .before .before .before .before .before .pre .1 .0, (c .before .before .before .before .before .before .before .before .before .before .before .pre .1 .1, words-read _ (c .before .before .before .before .before .before .before .before .file-of .ensures) refl (c .before .before .before .before .before .before .read .ensures) (ap readingOf (c .before .before .before .reading .given .1)))))
+show-log-requires c κs =
+    let at-reading = c .before .before .before in
+    let at-read = at-reading .before .before .before in
+    let at-file-of = at-read .before .before in
+    let start = at-file-of .before .before .before in
+    (start .pre .0, (start .pre .1 .0, (start .pre .1 .1, words-read _ (at-file-of .file-of .ensures) refl (at-read .read .ensures) (ap readingOf (at-reading .reading .given .1)))))
 
 enum-known-reading-2 : tie.Need-enum-known-reading-2
 enum-known-reading-2 c = search needs
@@ -49,8 +60,15 @@ same-length-2 c = search needs
 
 returns-2 : tie.Need-returns-2
 returns-2 c =
-    let room = c .before .before .before .before .before .before .before .before .before .before .before .before .before .pre .0 in
-    shown (file-refused _ (c .before .before .before .before .before .before .before .before .before .before .file-of .ensures) refl (c .before .before .before .before .before .before .before .before .read .ensures) (c .before .before .before .before .before .before .before .before .before .before .before .before .before .pre .1 .0) (ap readingOf (c .before .before .before .before .before .reading2 .given .1))) (c .before .before .refused .ensures) (omega (arith, refused-length (c .before .before .before .before .before .reading2 .given .0 .0)))
+    let at-refused = c .before .before in
+    let at-reading2 = at-refused .before .before .before in
+    let at-read = at-reading2 .before .before .before in
+    let at-file-of = at-read .before .before in
+    let start = at-file-of .before .before .before in
+    let room = start .pre .0 in
+    shown
+    (file-refused _ (at-file-of .file-of .ensures) refl (at-read .read .ensures) (start .pre .1 .0) (ap readingOf (at-reading2 .reading2 .given .1)))
+    (at-refused .refused .ensures) (omega (arith, refused-length (at-reading2 .reading2 .given .0 .0)))
 
 pub show-file-spec : {M : Type 1} → statement M
 show-file-spec =

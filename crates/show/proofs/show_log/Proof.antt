@@ -20,21 +20,30 @@ ticks-from-requires : tie.Need-ticks-from-requires
 ticks-from-requires c κs = search needs
 
 array-share-prefix-tokens : tie.Need-array-share-prefix-tokens
-array-share-prefix-tokens c = wrote-part (c .before .before .before .before .tokens-from .ensures) .0
+array-share-prefix-tokens c =
+    let at-tokens-from = c .before .before .before .before in
+    wrote-part (at-tokens-from .tokens-from .ensures) .0
 
 slice-aggregate-show-run : tie.Need-slice-aggregate-show-run
-slice-aggregate-show-run c = wrote-part (c .before .before .before .before .before .tokens-from .ensures) .1
+slice-aggregate-show-run c =
+    let at-tokens-from = c .before .before .before .before .before in
+    wrote-part (at-tokens-from .tokens-from .ensures) .1
 
 array-share-prefix-ticks : tie.Need-array-share-prefix-ticks
 array-share-prefix-ticks c = wrote-part (c .before .before .ticks-from .ensures) .0
 
 slice-aggregate-show-run-2 : tie.Need-slice-aggregate-show-run-2
-slice-aggregate-show-run-2 c = wrote-part (c .before .before .before .ticks-from .ensures) .1
+slice-aggregate-show-run-2 c =
+    let at-ticks-from = c .before .before .before in
+    wrote-part (at-ticks-from .ticks-from .ensures) .1
 
 show-run-requires : tie.Need-show-run-requires
 show-run-requires c κs =
-    let pre = c .before .before .before .before .before .before .before .before .before .before .before .before .pre in
-    (pre .0, kept-log (pre .1 .0) (pre .1 .1 .0) (pre .1 .1 .1) refl refl (c .before .before .before .before .before .before .before .tokens-from .ensures) (c .before .before .before .before .ticks-from .ensures))
+    let at-ticks-from = c .before .before .before .before in
+    let at-tokens-from = at-ticks-from .before .before .before in
+    let start = at-tokens-from .before .before .before .before .before in
+    let pre = start .pre in
+    (pre .0, kept-log (pre .1 .0) (pre .1 .1 .0) (pre .1 .1 .1) refl refl (at-tokens-from .tokens-from .ensures) (at-ticks-from .ticks-from .ensures))
 
 same-length : tie.Need-same-length
 same-length c = search needs
