@@ -5,8 +5,8 @@ fn main() {
     if std::env::var_os("CARGO_FEATURE_LINKED").is_none() {
         return;
     }
-    let folder = std::env::var("ODHRASHUP_LIBRARY").expect("the folder of libexports.a");
-    println!("cargo:rerun-if-changed={folder}/libexports.a");
+    let folder = std::env::var("ODHRASHUP_LIBRARY").expect("the folder of libodhrashup.a");
+    println!("cargo:rerun-if-changed={folder}/libodhrashup.a");
     println!("cargo:rustc-link-search=native={folder}");
-    println!("cargo:rustc-link-lib=static=exports");
+    println!("cargo:rustc-link-lib=static=odhrashup");
 }

@@ -1,7 +1,7 @@
 /* A bench that links the library: each function once, then an idle station and three refusals.
  *
- *    rt staticlib exports
- *    cc -Iinclude examples/bench.c target/staticlib/libexports.a -o bench && ./bench
+ *    ./library
+ *    cc -Iinclude examples/bench.c target/libodhrashup.a -o bench && ./bench
  *
  * The library is for x86-64 Linux. */
 #include <odhrashup.h>

@@ -1,5 +1,5 @@
 //! The proved implementation, behind its C interface: a driver process that links the static
-//! library answers calls, and the program `sweep` prints listings. Two processes and not a link,
+//! library answers calls, and the program `test_sweep` prints listings. Two processes and not a link,
 //! since the library is for x86-64 and may have to run under an emulator. `run` builds both and
 //! names their commands in `ODHRASHUP_DRIVER` and `ODHRASHUP_LISTINGS`.
 

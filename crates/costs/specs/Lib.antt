@@ -1,4 +1,4 @@
 pub mod Costed
-pub mod Falling
+pub mod Held
 pub mod Settled
 pub mod OnlyCosts

@@ -2,13 +2,13 @@
 use Prim.Native.Nat.{ℕ, _+_, _-_, _≤_, _<_}
 use mathlib.Core.Path.{_≡_, sym, _∙_, subst}
 use mathlib.Core.List.{List}
-use mathlib.Core.Logic.{_⊎_, ⊎-elim}
+use mathlib.Core.Logic.{⊎-elim}
 use native.Mathlib.Omega.{arith}
 use lib.ListN.{length, getD}
 use lib.Seq.{ext-getD}
+use Rattle.base.specs.Choices.{below-or}
 use Rattle.grammar.specs.Words.{terminalCount, nonterminalCount}
 use Rattle.costs.specs.Costed.{Costed}
-use Rattle.costs.specs.Falling.{below-or}
 
 module _ (ws l m : List ℕ) (one : Costed ws l) (two : Costed ws m) where
   -- A cost that one table knows the other knows, and holds no lower.

@@ -7,14 +7,7 @@ ghost use Rattle.grammar.specs.Words.{Shaped, rightSide, ruleCount};
 ghost use Rattle.grammar.specs.theory.Closed.{total};
 ghost use Rattle.shape.specs.Ready.{Ready};
 ghost use Rattle.costs.specs.Costed.{Costed};
-ghost use Rattle.costs.specs.Falling.{
-  Fallen,
-  FirstCost,
-  Held,
-  SettledAt,
-  Settles,
-  entry,
-};
+ghost use Rattle.costs.specs.Held.{FirstCost, Held, RoundTurn, RuleTurn, entry};
 
 // What stands for a cost above 60,000.
 const OVER: u32 = 60001;
@@ -27,11 +20,7 @@ pub fn costs(words: &[u16], places: &[u16], table: &mut [u32])
     ensures { λ _. ⌜ Costed (now (words .entry)) (now (table .exit)) ⌝ }
 {
     begin(words, table);
-    loop {
-        if round(words, places, table) == 0 {
-            return;
-        }
-    }
+    while round(words, places, table) {}
 }
 
 // The first costs.
@@ -53,7 +42,7 @@ fn first_cost(words: &[u16], x: usize) -> u32
     ensures { λ r. ⌜ FirstCost (now (words .entry)) x r ⌝ }
 {
     if x < shape::terminal_count(words) {
-        return wide(shape::insert_cost(words, x));
+        return base::long(shape::insert_cost(words, x));
     }
     if x < 64 {
         return 0;
@@ -64,37 +53,37 @@ fn first_cost(words: &[u16], x: usize) -> u32
     0
 }
 
-// Every rule once: by how much the sum of the costs falls.
-fn round(words: &[u16], places: &[u16], table: &mut [u32]) -> u32
+// Every rule once: whether a cost falls.
+fn round(words: &[u16], places: &[u16], table: &mut [u32]) -> bool
     requires { ⌜ Ready (now words) (now places) ⌝ }
     requires { ⌜ Held (now words) (now table) ⌝ }
-    ensures { λ r. ⌜ Fallen (now (words .entry)) (Settles (now (words .entry))) (now (table .entry)) (now (table .exit)) r ⌝ }
+    ensures { λ r. ⌜ RoundTurn (now (words .entry)) (now (table .entry)) (now (table .exit)) r ⌝ }
 {
     let count = shape::rule_count(words);
-    let mut fallen = 0;
+    let mut changed = false;
     let mut p = 0;
     while p < count {
-        fallen += lower(words, places, p, table);
+        let more = lower(words, places, p, table);
+        changed = growth::either(more, changed);
         p += 1;
     }
-    fallen
+    changed
 }
 
-// The left side of rule p costs no more than its right side: by how much its cost falls.
-fn lower(words: &[u16], places: &[u16], p: usize, table: &mut [u32]) -> u32
+// The left side of rule p costs no more than its right side: whether its cost falls.
+fn lower(words: &[u16], places: &[u16], p: usize, table: &mut [u32]) -> bool
     requires { ⌜ Ready (now words) (now places) ⌝ }
     requires { ⌜ p < ruleCount (now words) ⌝ }
     requires { ⌜ Held (now words) (now table) ⌝ }
-    ensures { λ r. ⌜ Fallen (now (words .entry)) (λ l. SettledAt (now (words .entry)) l p) (now (table .entry)) (now (table .exit)) r ⌝ }
+    ensures { λ r. ⌜ RuleTurn (now (words .entry)) p (now (table .entry)) (now (table .exit)) r ⌝ }
 {
     let sum = rule_cost(words, places, p, table);
     let left = 64 + shape::left_of(words, places, p) as usize;
-    let old = table[left];
-    if sum < old {
+    if sum < table[left] {
         table[left] = sum;
-        return old - sum;
+        return true;
     }
-    0
+    false
 }
 
 // The sum over rule p's right side, from its end. Eight costs are far below 2 ^ 32.
@@ -111,11 +100,4 @@ fn rule_cost(words: &[u16], places: &[u16], p: usize, table: &[u32]) -> u32
         sum += table[shape::symbol_at(words, places, p, i) as usize];
     }
     sum
-}
-
-// A word, to add up with.
-fn wide(x: u16) -> u32
-    ensures { λ r. ⌜ r ≡ x ⌝ }
-{
-    x as u32
 }

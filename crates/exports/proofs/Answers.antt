@@ -6,27 +6,23 @@ use mathlib.Core.Option.{Option, none, some}
 use lib.Ieee.{Float, binary64, div, nan, ofBits, ofFields}
 use lib.ListN.{set, replicate}
 use Rattle.grammar.specs.Refusals.{Outcome, given, refused, numberOf}
-use Rattle.grammar.specs.File.{FileRead}
 use Rattle.grammar.specs.Grammar.{Verdict}
-use Rattle.grammar.specs.Run.{Counts, Parsed}
 use Rattle.grammar.specs.Pace.{Reported}
+use Rattle.grammar.specs.declared.Counts.{Counts}
 use Rattle.grammar.specs.declared.Refusal.{Refusal}
 use Rattle.grammar.specs.declared.Report.{Report}
 use Rattle.grammar.specs.declared.Pace.{Pace}
 use Rattle.exports.specs.Status.{
+  AnsweredAs,
   CheckedAs,
   PacedAs,
-  ParsedAs,
   Put,
-  ReadAs,
+  cellsOf,
+  counted,
   paceFloat,
   paceStatus,
   parseCounts,
   plusZero,
-  readCounts,
-  reportCounts,
-  reportFloats,
-  reportStatus,
   statusOf,
   verdictStatus,
 }
@@ -44,63 +40,29 @@ unfolding verdictStatus
 rejects {ws} {r = r} v e s =
     record { outcome = some r; verdict = subst (λ (o : Option Refusal). Verdict ws o) e v; status-is = s }
 
--- ---- Reading
+-- ---- Reading, parsing and pacing
 
-module _ {bytes words : List ℕ} {room : ℕ} {o : Outcome ℕ} (answer : FileRead bytes room o words) (countRoom : ℕ) where
-  pub reads : {n : ℕ} {blank counts : List ℕ} → o ≡ given n → blank ≡ replicate countRoom 0 → counts ≡ set blank 0 n
-      → ReadAs bytes room countRoom 0 words counts
-  unfolding statusOf readCounts
-  reads {n} e b s =
-      record {
-        outcome = given n;
-        read = subst (λ (q : Outcome ℕ). FileRead bytes room q words) e answer;
-        status-is = refl;
-        counts-are = s ∙ (ap (λ (l : List ℕ). set l 0 n) b ∙ fits-one 0 countRoom n);
-      }
+module _ {A : Type 0} {Answer : Outcome A → Type 0} {statusBy : A → ℕ} {countsBy : A → List ℕ} {countRoom : ℕ} where
+  -- An answer of values,
+  pub answers : {o : Outcome A} {a : A} {status : ℕ} {counts : List ℕ} → Answer o → o ≡ given a → status ≡ statusBy a
+      → counts ≡ counted countRoom (countsBy a) → AnsweredAs Answer statusBy countsBy countRoom status counts
+  unfolding statusOf cellsOf
+  answers {a = a} h e s c = record { outcome = given a; answer = subst Answer e h; status-is = s; counts-are = c }
 
-  pub reads-not : {r : Refusal} {status : ℕ} {counts : List ℕ} → o ≡ refused r → counts ≡ replicate countRoom 0
-      → status ≡ numberOf r → ReadAs bytes room countRoom status words counts
-  unfolding statusOf readCounts
-  reads-not {r} e b s =
-      record {
-        outcome = refused r;
-        read = subst (λ (q : Outcome ℕ). FileRead bytes room q words) e answer;
-        status-is = s;
-        counts-are = b ∙ fits-none 0 countRoom;
-      }
+  -- or a refusal.
+  pub refuses : {o : Outcome A} {r : Refusal} {status : ℕ} {counts : List ℕ} → Answer o → o ≡ refused r → counts ≡ replicate countRoom 0
+      → status ≡ numberOf r → AnsweredAs Answer statusBy countsBy countRoom status counts
+  unfolding statusOf cellsOf
+  refuses {r = r} h e b s =
+      record { outcome = refused r; answer = subst Answer e h; status-is = s; counts-are = b ∙ fits-none 0 countRoom }
 
--- ---- Parsing
+-- Counts that are written one after the other over a blank buffer.
+pub one-count : (room n : ℕ) {blank counts : List ℕ} → blank ≡ replicate room 0 → counts ≡ set blank 0 n → counts ≡ counted room (n ∷ [])
+one-count room n b s = s ∙ (ap (λ (l : List ℕ). set l 0 n) b ∙ fits-one 0 room n)
 
-module _ {words log edits rules : List ℕ} {editRoom ruleRoom : ℕ} {o : Outcome Counts}
-    (answer : Parsed words log editRoom ruleRoom o edits rules) (countRoom : ℕ) where
-  pub parses : {n : Counts} {blank one two three : List ℕ} → o ≡ given n → blank ≡ replicate countRoom 0
-      → one ≡ set blank 0 (n .moves) → two ≡ set one 1 (n .records) → three ≡ set two 2 (n .listed)
-      → ParsedAs words log editRoom ruleRoom countRoom 0 edits rules three
-  unfolding statusOf parseCounts
-  parses {n} e b p q s =
-      record {
-        outcome = given n;
-        parsed = subst (λ (x : Outcome Counts). Parsed words log editRoom ruleRoom x edits rules) e answer;
-        status-is = refl;
-        counts-are = s
-            ∙ (ap (λ (l : List ℕ). set l 2 (n .listed)) q
-            ∙ (ap (λ (l : List ℕ). set (set l 1 (n .records)) 2 (n .listed)) p
-            ∙ (ap (λ (l : List ℕ). set (set (set l 0 (n .moves)) 1 (n .records)) 2 (n .listed)) b
-            ∙ fits-three 0 countRoom (n .moves) (n .records) (n .listed))));
-      }
-
-  pub parses-not : {r : Refusal} {status : ℕ} {counts : List ℕ} → o ≡ refused r → counts ≡ replicate countRoom 0
-      → status ≡ numberOf r → ParsedAs words log editRoom ruleRoom countRoom status edits rules counts
-  unfolding statusOf parseCounts
-  parses-not {r} e b s =
-      record {
-        outcome = refused r;
-        parsed = subst (λ (x : Outcome Counts). Parsed words log editRoom ruleRoom x edits rules) e answer;
-        status-is = s;
-        counts-are = b ∙ fits-none 0 countRoom;
-      }
-
--- ---- Pacing
+pub three-counts : (room : ℕ) (n : Counts) {blank one two three : List ℕ} → blank ≡ replicate room 0 → one ≡ set blank 0 (n .moves)
+    → two ≡ set one 1 (n .records) → three ≡ set two 2 (n .listed) → three ≡ counted room (parseCounts n)
+three-counts room n b p q s = cc (fits-three 0 room (n .moves) (n .records) (n .listed))
 
 -- The division by which the idle station's float is made.
 pub no-number : div binary64 (ofBits binary64 0) (ofBits binary64 0) ≡ nan
@@ -117,19 +79,18 @@ puts {report} {mean = mean} first second e f s =
       mean-is = s ∙ (ap (λ (y : Float). set mean 0 y) (f ∙ sym (ap paceFloat e)));
     }
 
-module _ {words log ticks edits rules : List ℕ} {editRoom ruleRoom : ℕ} {o : Outcome Report}
+module _ {words log ticks edits rules : List ℕ} {editRoom ruleRoom : ℕ} {o : Outcome (Report × Counts)}
     (answer : Reported words log ticks editRoom ruleRoom o edits rules) (countRoom meanRoom : ℕ) where
-  pub paces : {report : Report} {status : ℕ} {blank counts : List ℕ} {none mean : List Float} → o ≡ given report
+  pub paces : {report : Report} {made : Counts} {status : ℕ} {blank counts : List ℕ} {none mean : List Float} → o ≡ given (report, made)
       → blank ≡ replicate countRoom 0 → none ≡ replicate meanRoom plusZero → Put report blank none status counts mean
       → PacedAs words log ticks editRoom ruleRoom countRoom meanRoom status edits rules counts mean
-  unfolding reportStatus reportCounts reportFloats
+  unfolding cellsOf answers
   paces {report} e b m p =
       record {
-        outcome = given report;
-        reported = subst (λ (x : Outcome Report). Reported words log ticks editRoom ruleRoom x edits rules) e answer;
-        status-is = p .status-is;
-        counts-are = p .counts-are
-            ∙ (ap (λ (l : List ℕ). set (set l 0 (report .count)) 1 (report .sum)) b ∙ fits-two 0 countRoom (report .count) (report .sum));
+        answered =
+            answers answer e (p .status-is)
+            (p .counts-are
+            ∙ (ap (λ (l : List ℕ). set (set l 0 (report .count)) 1 (report .sum)) b ∙ fits-two 0 countRoom (report .count) (report .sum)));
         mean-is = p .mean-is
             ∙ (ap (λ (l : List Float). set l 0 (paceFloat (report .pace))) m ∙ fits-one plusZero meanRoom (paceFloat (report .pace)));
       }
@@ -137,12 +98,5 @@ module _ {words log ticks edits rules : List ℕ} {editRoom ruleRoom : ℕ} {o :
   pub paces-not : {r : Refusal} {status : ℕ} {counts : List ℕ} {mean : List Float} → o ≡ refused r → counts ≡ replicate countRoom 0
       → mean ≡ replicate meanRoom plusZero → status ≡ numberOf r
       → PacedAs words log ticks editRoom ruleRoom countRoom meanRoom status edits rules counts mean
-  unfolding reportStatus reportCounts reportFloats
-  paces-not {r} e b m s =
-      record {
-        outcome = refused r;
-        reported = subst (λ (x : Outcome Report). Reported words log ticks editRoom ruleRoom x edits rules) e answer;
-        status-is = s;
-        counts-are = b ∙ fits-none 0 countRoom;
-        mean-is = m ∙ fits-none plusZero meanRoom;
-      }
+  unfolding cellsOf refuses
+  paces-not e b m s = record { answered = refuses answer e b s; mean-is = m ∙ fits-none plusZero meanRoom }

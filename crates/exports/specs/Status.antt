@@ -10,8 +10,9 @@ use lib.ListN.{take, replicate, set}
 use Rattle.grammar.specs.Refusals.{Outcome, given, refused, numberOf}
 use Rattle.grammar.specs.File.{FileRead}
 use Rattle.grammar.specs.Grammar.{Verdict}
-use Rattle.grammar.specs.Run.{Counts, Parsed}
+use Rattle.grammar.specs.Run.{Parsed}
 use Rattle.grammar.specs.Pace.{Reported}
+use Rattle.grammar.specs.declared.Counts.{Counts}
 use Rattle.grammar.specs.declared.Refusal.{Refusal}
 use Rattle.grammar.specs.declared.Report.{Report}
 use Rattle.grammar.specs.declared.Pace.{Pace}
@@ -25,24 +26,39 @@ fitted blank room xs = take room (xs ++ replicate room blank)
 abbrev pub counted : ℕ → List ℕ → List ℕ
 counted room ns = fitted 0 room ns
 
--- The status of an answer: 0, or the number of the refusal.
-unfoldable pub statusOf : {A : Type 0} → Outcome A → ℕ
-statusOf (given a) = 0
-statusOf (refused r) = numberOf r
+-- The status of an answer: that of its values, or the number of the refusal.
+unfoldable pub statusOf : {A : Type 0} → (A → ℕ) → Outcome A → ℕ
+statusOf status (given a) = status a
+statusOf status (refused r) = numberOf r
 
--- ---- Reading
+-- What is written of an answer: of a refusal nothing.
+unfoldable pub cellsOf : {A B : Type 0} → (A → List B) → Outcome A → List B
+cellsOf cells (given a) = cells a
+cellsOf cells (refused r) = []
 
--- The counts of a reading: the number of words.
-unfoldable pub readCounts : Outcome ℕ → List ℕ
-readCounts (given n) = n ∷ []
-readCounts (refused r) = []
+-- The status and the buffer of counts by one outcome, which is `Answer`.
+pub record AnsweredAs {A : Type 0} (Answer : Outcome A → Type 0) (statusBy : A → ℕ) (countsBy : A → List ℕ) (countRoom status : ℕ)
+    (counts : List ℕ) : Type 0 where
+  pub outcome : Outcome A
+  pub answer : Answer outcome
+  pub status-is : status ≡ statusOf statusBy outcome
+  pub counts-are : counts ≡ counted countRoom (cellsOf countsBy outcome)
 
--- A file is read: the status, the word buffer and the buffer of counts by one outcome.
-pub record ReadAs (bytes : List ℕ) (room countRoom status : ℕ) (words counts : List ℕ) : Type 0 where
-  pub outcome : Outcome ℕ
-  pub read : FileRead bytes room outcome words
-  pub status-is : status ≡ statusOf outcome
-  pub counts-are : counts ≡ counted countRoom (readCounts outcome)
+-- ---- Reading and parsing
+
+-- A file is read: status 0, and the number of words.
+abbrev pub ReadAs : List ℕ → ℕ → ℕ → ℕ → List ℕ → List ℕ → Type 0
+ReadAs bytes room countRoom status words counts =
+    AnsweredAs (λ (o : Outcome ℕ). FileRead bytes room o words) (λ n. 0) (λ n. n ∷ []) countRoom status counts
+
+-- The counts of a parse: moves, edit records, rule numbers.
+abbrev pub parseCounts : Counts → List ℕ
+parseCounts n = n .moves ∷ n .records ∷ n .listed ∷ []
+
+-- A log is parsed: status 0, and its counts.
+abbrev pub ParsedAs : List ℕ → List ℕ → ℕ → ℕ → ℕ → ℕ → List ℕ → List ℕ → List ℕ → Type 0
+ParsedAs words log editRoom ruleRoom countRoom status edits rules counts =
+    AnsweredAs (λ (o : Outcome Counts). Parsed words log editRoom ruleRoom o edits rules) (λ n. 0) parseCounts countRoom status counts
 
 -- ---- Checking
 
@@ -56,20 +72,6 @@ pub record CheckedAs (words : List ℕ) (status : ℕ) : Type 0 where
   pub outcome : Option Refusal
   pub verdict : Verdict words outcome
   pub status-is : status ≡ verdictStatus outcome
-
--- ---- Parsing
-
--- The counts of a parse: moves, edit records, rule numbers.
-unfoldable pub parseCounts : Outcome Counts → List ℕ
-parseCounts (given n) = n .moves ∷ n .records ∷ n .listed ∷ []
-parseCounts (refused r) = []
-
--- A log is parsed: the status and the three buffers by one outcome.
-pub record ParsedAs (words log : List ℕ) (editRoom ruleRoom countRoom status : ℕ) (edits rules counts : List ℕ) : Type 0 where
-  pub outcome : Outcome Counts
-  pub parsed : Parsed words log editRoom ruleRoom outcome edits rules
-  pub status-is : status ≡ statusOf outcome
-  pub counts-are : counts ≡ counted countRoom (parseCounts outcome)
 
 -- ---- Pacing
 
@@ -87,32 +89,17 @@ unfoldable pub paceFloat : Pace → Float
 paceFloat Idle = nan
 paceFloat (Mean ms) = ms
 
--- The status of a report, or of a refusal.
-unfoldable pub reportStatus : Outcome Report → ℕ
-reportStatus (given report) = paceStatus (report .pace)
-reportStatus (refused r) = numberOf r
-
--- The counts of a report: the clean cycles, and the sum of their times in ms.
-unfoldable pub reportCounts : Outcome Report → List ℕ
-reportCounts (given report) = report .count ∷ report .sum ∷ []
-reportCounts (refused r) = []
-
--- The floats of a report: one.
-unfoldable pub reportFloats : Outcome Report → List Float
-reportFloats (given report) = paceFloat (report .pace) ∷ []
-reportFloats (refused r) = []
-
--- A log is paced: the status and the four buffers by one outcome.
+-- A log is paced: the status of its pace, the clean cycles and the sum of their times in ms, and one float. The counts of its parse
+-- are not given.
 pub record PacedAs (words log ticks : List ℕ) (editRoom ruleRoom countRoom meanRoom status : ℕ) (edits rules counts : List ℕ)
     (mean : List Float) : Type 0 where
-  pub outcome : Outcome Report
-  pub reported : Reported words log ticks editRoom ruleRoom outcome edits rules
-  pub status-is : status ≡ reportStatus outcome
-  pub counts-are : counts ≡ counted countRoom (reportCounts outcome)
-  pub mean-is : mean ≡ fitted plusZero meanRoom (reportFloats outcome)
+  pub answered : AnsweredAs (λ (o : Outcome (Report × Counts)). Reported words log ticks editRoom ruleRoom o edits rules)
+      (λ a. paceStatus (a .0 .pace)) (λ a. a .0 .count ∷ a .0 .sum ∷ []) countRoom status counts
+  pub mean-is : mean ≡ fitted plusZero meanRoom (cellsOf (λ a. paceFloat (a .0 .pace) ∷ []) (answered .outcome))
 
 -- A report is written over the two buffers as far as it fits, under its status.
-pub record Put (report : Report) (counts : List ℕ) (mean : List Float) (status : ℕ) (countsThen : List ℕ) (meanThen : List Float) : Type 0 where
+pub record Put (report : Report) (counts : List ℕ) (mean : List Float) (status : ℕ) (countsThen : List ℕ)
+    (meanThen : List Float) : Type 0 where
   pub status-is : status ≡ paceStatus (report .pace)
   pub counts-are : countsThen ≡ set (set counts 0 (report .count)) 1 (report .sum)
   pub mean-is : meanThen ≡ set mean 0 (paceFloat (report .pace))

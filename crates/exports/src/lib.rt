@@ -2,14 +2,12 @@
 // None asks for anything beforehand. `include/odhrashup.h` declares them.
 ghost use mathlib.Core.Path.{_≡_};
 ghost use lib.ListN.{length, replicate, set};
-ghost use Rattle.grammar.specs.Refusals.{numberOf};
 ghost use Rattle.exports.specs.Status.{CheckedAs, PacedAs, ParsedAs, Put, ReadAs, plusZero};
-use blocks::Reading;
+use file::Reading;
 use grammar::Pace;
-use grammar::Refusal;
 use grammar::Report;
 use pace::Paced;
-use repair::Parsing;
+use parser::Parsing;
 use verdict::Checked;
 
 // The status of a report without a clean cycle.
@@ -21,14 +19,14 @@ pub extern "C" fn odhrashup_read(bytes: &[u8], words: &mut [u16], counts: &mut [
     ensures { λ r. ⌜ ReadAs (now (bytes .entry)) (length (now (words .entry))) (length (now (counts .entry))) r
         (now (words .exit)) (now (counts .exit)) ⌝ }
 {
-    clear(counts);
-    let reading = blocks::read(bytes, words);
+    base::clear_numbers(counts);
+    let reading = file::read(bytes, words);
     match reading {
         Reading::Words(count) => {
             put(counts, 0, count as u64);
             0
         }
-        Reading::Refused(refusal) => refusal_number(refusal),
+        Reading::Refused(refusal) => grammar::number_of(refusal),
     }
 }
 
@@ -40,7 +38,7 @@ pub extern "C" fn odhrashup_check(words: &[u16]) -> u32
     let checked = verdict::check(words);
     match checked {
         Checked::Accepted => 0,
-        Checked::Refused(refusal) => refusal_number(refusal),
+        Checked::Refused(refusal) => grammar::number_of(refusal),
     }
 }
 
@@ -56,16 +54,16 @@ pub extern "C" fn odhrashup_parse(
     ensures { λ r. ⌜ ParsedAs (now (words .entry)) (now (log .entry)) (length (now (edits .entry))) (length (now (rules .entry)))
         (length (now (counts .entry))) r (now (edits .exit)) (now (rules .exit)) (now (counts .exit)) ⌝ }
 {
-    clear(counts);
-    let parsing = repair::parse(words, log, edits, rules);
+    base::clear_numbers(counts);
+    let parsing = parser::parse(words, log, edits, rules);
     match parsing {
-        Parsing::Counts(moves, records, listed) => {
-            put(counts, 0, moves as u64);
-            put(counts, 1, records as u64);
-            put(counts, 2, listed as u64);
+        Parsing::Parsed(made) => {
+            put(counts, 0, made.moves as u64);
+            put(counts, 1, made.records as u64);
+            put(counts, 2, made.listed as u64);
             0
         }
-        Parsing::Refused(refusal) => refusal_number(refusal),
+        Parsing::Refused(refusal) => grammar::number_of(refusal),
     }
 }
 
@@ -85,12 +83,12 @@ pub extern "C" fn odhrashup_pace(
         (length (now (rules .entry))) (length (now (counts .entry))) (length (now (mean .entry))) r (now (edits .exit))
         (now (rules .exit)) (now (counts .exit)) (now (mean .exit)) ⌝ }
 {
-    clear(counts);
+    base::clear_numbers(counts);
     clear_mean(mean);
-    let paced = pace::pace(words, log, ticks, edits, rules);
+    let paced = pace::report(words, log, ticks, edits, rules);
     match paced {
-        Paced::Reported(report) => put_report(report, counts, mean),
-        Paced::Refused(refusal) => refusal_number(refusal),
+        Paced::Reported(report, _) => put_report(report, counts, mean),
+        Paced::Refused(refusal) => grammar::number_of(refusal),
     }
 }
 
@@ -114,36 +112,6 @@ fn put_report(report: Report, counts: &mut [u64], mean: &mut [f64]) -> u32
 }
 
 // ---- What they share
-
-fn refusal_number(refusal: Refusal) -> u32
-    ensures { λ r. ⌜ r ≡ numberOf refusal ⌝ }
-{
-    match refusal {
-        Refusal::BadSize => 1,
-        Refusal::BadCheck => 2,
-        Refusal::BadBlock => 3,
-        Refusal::ShortWords => 4,
-        Refusal::BadShape => 5,
-        Refusal::Unreachable => 6,
-        Refusal::NoString => 7,
-        Refusal::TooCostly => 8,
-        Refusal::SharedPredict => 9,
-        Refusal::BadLog => 10,
-        Refusal::StackFull => 11,
-        Refusal::NoRoom => 12,
-    }
-}
-
-// Makes every count zero.
-fn clear(counts: &mut [u64])
-    ensures { λ _. ⌜ now (counts .exit) ≡ replicate (length (now (counts .entry))) 0 ⌝ }
-{
-    let mut i = 0;
-    while i < counts.len() {
-        counts[i] = 0;
-        i += 1;
-    }
-}
 
 // Writes one count where it fits.
 fn put(counts: &mut [u64], at: usize, count: u64)

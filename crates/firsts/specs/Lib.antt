@@ -1,4 +1,3 @@
-pub mod Lists
 pub mod Opens
 pub mod Masks
 pub mod Asked

@@ -1,17 +1,19 @@
 -- Masks of nonterminals that can be empty and of FIRST, and that by exact masks a walk over a list is exact.
 use Prim.Native.Nat.{ℕ, _+_, _-_, _≤_, _<_}
-use mathlib.Core.Path.{_≡_, refl, sym, subst}
+use mathlib.Core.Path.{_≡_, sym, subst}
 use mathlib.Core.Bool.{true}
 use mathlib.Core.List.{List, [], _∷_}
 use mathlib.Core.Logic.{_⊎_, _↔_, inl, inr, ⊎-elim}
 use native.Mathlib.Omega.{arith}
 use lib.ListN.{getD}
+use Rattle.grammar.specs.theory.Masks.{FirstMask, NullMask}
 use Rattle.grammar.specs.Words.{Terminal, terminalCount, nonterminalCount, RuleSymbol, Shaped}
 use Rattle.grammar.specs.Derivation.{All, CanBeEmpty, First}
 use Rattle.grammar.specs.Grammar.{RuleOf}
-use Rattle.grammar.specs.model.Sets.{all-map}
+use Rattle.grammar.specs.theory.Members.{all-map}
+use Rattle.grammar.specs.theory.RightSides.{rule-left}
 use Rattle.sets.specs.Bits.{member}
-use Rattle.firsts.specs.Lists.{
+use Rattle.grammar.specs.theory.Firsts.{
   Fades,
   Starts,
   all-empty,
@@ -24,26 +26,14 @@ use Rattle.firsts.specs.Lists.{
 }
 use Rattle.firsts.specs.Opens.{Opens, Says, Hears, opens-say, begins-open, behind-open}
 
--- The bits of `mask` are the nonterminals that can be empty.
-abbrev pub NullMask : List ℕ → ℕ → Type 0
-NullMask ws mask = (k : ℕ) → k < nonterminalCount ws → (member mask k ≡ true) ↔ CanBeEmpty (RuleOf ws) ((64 + k) ∷ [])
-
--- The bits of `mask` are the tokens in FIRST of the list.
-abbrev pub FirstMask : List ℕ → List ℕ → ℕ → Type 0
-FirstMask ws α mask = (t : ℕ) → Terminal t → (member mask t ≡ true) ↔ First (RuleOf ws) α t
-
 -- The table holds FIRST of each nonterminal.
 pub record FirstsOf (ws firsts : List ℕ) : Type 0 where
-  pub first : (k : ℕ) → k < nonterminalCount ws → FirstMask ws ((64 + k) ∷ []) (getD firsts k 0)
-
--- A left side is no terminal.
-pub rule-left : (ws : List ℕ) (p A : ℕ) (β : List ℕ) → RuleOf ws p A β → 64 ≤ A
-rule-left ws p A β r = omega (arith, r .left)
+  pub first : (k : ℕ) → k < nonterminalCount ws → FirstMask (RuleOf ws) ((64 + k) ∷ []) (getD firsts k 0)
 
 pub number-symbol : (X : ℕ) → 64 ≤ X → 64 + (X - 64) ≡ X
 number-symbol X l = omega arith
 
-module _ (ws : List ℕ) (s : Shaped ws) (null : ℕ) (nulls : NullMask ws null) where
+module _ (ws : List ℕ) (s : Shaped ws) (null : ℕ) (nulls : NullMask (RuleOf ws) (nonterminalCount ws) null) where
   pub null-says : (X : ℕ) → RuleSymbol (terminalCount ws) (nonterminalCount ws) X → 64 ≤ X
       → member null (X - 64) ≡ true → Fades (RuleOf ws) X
   null-says X (RuleSymbol.terminal a b) l m = absurd (omega (arith, s .terminals-high))

@@ -8,14 +8,14 @@ ghost use Rattle.grammar.specs.Words.{rightSide, ruleCount};
 ghost use Rattle.firsts.specs.Opens.{FirstWith};
 ghost use Rattle.firsts.specs.Masks.{FirstsOf};
 ghost use Rattle.firsts.specs.Asked.{Asked, RuleFirstsOf};
-ghost use Rattle.firsts.specs.Firsts.{RoundTurn, RuleTurn};
+ghost use Rattle.firsts.specs.Firsts.{RoundTurn, RuleTurn, SoundFirsts};
 
 // FIRST of each nonterminal.
 pub fn firsts(words: &[u16], places: &[u16], null: u64, out: &mut [u64])
     requires { ⌜ Asked (now words) (now places) null (now out) ⌝ }
     ensures { λ _. ⌜ FirstsOf (now (words .entry)) (now (out .exit)) ⌝ }
 {
-    growth::clear(out);
+    base::clear_numbers(out);
     while round(words, places, null, out) {}
 }
 
@@ -77,6 +77,7 @@ pub fn pass(x: u16, null: u64, firsts: &[u64], behind: u64) -> u64
 // A pass over the rules, the last one first: what a rule uses mostly stands behind it.
 fn round(words: &[u16], places: &[u16], null: u64, out: &mut [u64]) -> bool
     requires { ⌜ Asked (now words) (now places) null (now out) ⌝ }
+    requires { ⌜ SoundFirsts (now words) (now out) ⌝ }
     ensures { λ r. ⌜ RoundTurn (now (words .entry)) null (now (out .entry)) (now (out .exit)) r ⌝ }
 {
     let mut changed = false;
@@ -93,6 +94,7 @@ fn round(words: &[u16], places: &[u16], null: u64, out: &mut [u64]) -> bool
 fn add_rule(words: &[u16], places: &[u16], null: u64, out: &mut [u64], p: usize) -> bool
     requires { ⌜ Asked (now words) (now places) null (now out) ⌝ }
     requires { ⌜ p < ruleCount (now words) ⌝ }
+    requires { ⌜ SoundFirsts (now words) (now out) ⌝ }
     ensures { λ r. ⌜ RuleTurn (now (words .entry)) null p (now (out .entry)) (now (out .exit)) r ⌝ }
 {
     let mask = first_with(words, places, null, out, p, 0);

@@ -1,28 +1,30 @@
 -- FOLLOW by rounds, over START END, where every nonterminal is reachable: sound, complete, therefore exact.
 use Prim.Native.Nat.{ℕ, _+_, _-_, _≤_, _<_}
-use mathlib.Core.Path.{_≡_, refl, sym, ap, _∙_, subst}
-use mathlib.Core.Bool.{Bool, true, false}
+use mathlib.Core.Path.{_≡_, sym, subst}
+use mathlib.Core.Bool.{Bool, true}
 use mathlib.Core.List.{List, [], _∷_}
 use mathlib.Core.Logic.{_⊎_, _↔_, inl, inr, ⊎-elim}
 use native.Mathlib.Omega.{arith}
-use lib.ListN.{length, getD, replicate}
+use lib.ListN.{length, getD}
+use Rattle.grammar.specs.theory.Masks.{NullMask}
 use Rattle.grammar.specs.Words.{START, END, Terminal, terminalCount, nonterminalCount, ruleCount, leftSide, rightSide, RuleSymbol, Shaped}
-use Rattle.grammar.specs.Derivation.{All, First, Follow, Reachable}
-use Rattle.grammar.specs.Grammar.{RuleOf}
+use Rattle.grammar.specs.Derivation.{All, Follow, Reachable}
+use Rattle.grammar.specs.Grammar.{RuleOf, startOverEnd}
 use Rattle.grammar.specs.theory.Leftmost.{to-der}
 use Rattle.grammar.specs.theory.Closed.{ClosedFollow, closed-follow, Followed, followed-at, Begins}
-use Rattle.grammar.specs.model.Wording.{right-symbols}
+use Rattle.grammar.specs.theory.RightSides.{right-symbols, rule-left}
 use Rattle.sets.specs.Bits.{member}
-use Rattle.growth.specs.Turns.{Turn, Every}
-use Rattle.firsts.specs.Lists.{Fades, Starts, all-empty, begins-first, empty-closed, first-closed, first-self, terminal-first}
+use Rattle.growth.specs.Sums.{sum}
+use Rattle.growth.specs.Turns.{Turn}
+use Rattle.grammar.specs.theory.Firsts.{Fades, Starts, all-empty, begins-first, empty-closed, first-closed, first-self, terminal-first}
 use Rattle.firsts.specs.Opens.{Opens}
-use Rattle.firsts.specs.Masks.{NullMask, FirstsOf, rule-left, opens-exact}
+use Rattle.firsts.specs.Masks.{FirstsOf, opens-exact}
 use Rattle.firsts.specs.Asked.{Asked}
 
 -- The table holds FOLLOW of each nonterminal.
 pub record FollowsOf (ws follows : List ℕ) : Type 0 where
   pub follow : (k t : ℕ) → k < nonterminalCount ws → Terminal t
-      → (member (getD follows k 0) t ≡ true) ↔ Follow (RuleOf ws) (START ∷ END ∷ []) (64 + k) t
+      → (member (getD follows k 0) t ≡ true) ↔ Follow (RuleOf ws) startOverEnd (64 + k) t
 
 -- Every nonterminal is reachable from START.
 abbrev pub Reached : List ℕ → Type 0
@@ -35,9 +37,12 @@ pub record Needed (ws places : List ℕ) (null : ℕ) (firsts follows : List ℕ
   pub reached : Reached ws
   pub size : length follows ≡ 64
 
--- Every token in a set is in FOLLOW of its nonterminal.
-abbrev pub SoundFollows : List ℕ → List ℕ → Type 0
-SoundFollows ws l = (k t : ℕ) → Terminal t → member (getD l k 0) t ≡ true → Follow (RuleOf ws) (START ∷ END ∷ []) (64 + k) t
+-- What holds of the table before and after each rule: it has 64 sets, every token in a set is in FOLLOW of its nonterminal,
+-- and END is in that of START.
+pub record SoundFollows (ws l : List ℕ) : Type 0 where
+  pub size : length l ≡ 64
+  pub sound : (k t : ℕ) → Terminal t → member (getD l k 0) t ≡ true → Follow (RuleOf ws) startOverEnd (64 + k) t
+  pub start : member (getD l 0 0) END ≡ true
 
 -- Each nonterminal of the list has t in its set, where t begins what stands behind it, `base` behind the list.
 pub data Fed (null : ℕ) (firsts : List ℕ) (base t : ℕ) (l : List ℕ) : List ℕ → Type 0 where
@@ -51,10 +56,10 @@ ClosedFollows ws null firsts p l = (k t : ℕ) → leftSide ws p ≡ 64 + k → 
 
 -- What a rule, and what a round over all rules, does to the table.
 abbrev pub RuleTurn : List ℕ → ℕ → List ℕ → ℕ → List ℕ → List ℕ → Bool → Type 0
-RuleTurn ws null firsts p = Turn (SoundFollows ws) (ClosedFollows ws null firsts p)
+RuleTurn ws null firsts p = Turn (SoundFollows ws) (ClosedFollows ws null firsts p) sum
 
 abbrev pub RoundTurn : List ℕ → ℕ → List ℕ → List ℕ → List ℕ → Bool → Type 0
-RoundTurn ws null firsts = Turn (SoundFollows ws) (Every (ruleCount ws) (ClosedFollows ws null firsts))
+RoundTurn ws null firsts = Turn (SoundFollows ws) (λ l. (p : ℕ) → p < ruleCount ws → ClosedFollows ws null firsts p l) sum
 
 -- ---- Complete
 
@@ -62,7 +67,7 @@ module _
     (ws : List ℕ)
     (s : Shaped ws)
     (null : ℕ)
-    (nulls : NullMask ws null)
+    (nulls : NullMask (RuleOf ws) (nonterminalCount ws) null)
     (firsts : List ℕ)
     (exact : FirstsOf ws firsts)
     (l : List ℕ) where
@@ -85,7 +90,7 @@ module _
       (λ n e. behind t X c (λ h. f h (opens (inr (all-empty (RuleOf ws) n, g e)))))
       (feeds t i base E g a rest)
 
-  module _ (closed : Every (ruleCount ws) (ClosedFollows ws null firsts) l) (start : member (getD l 0 0) END ≡ true) where
+  module _ (closed : (p : ℕ) → p < ruleCount ws → ClosedFollows ws null firsts p l) (sound : SoundFollows ws l) where
     rules-closed : (t : ℕ) → Terminal t → ClosedFollow (RuleOf ws) (Fades (RuleOf ws)) (Starts (RuleOf ws) t) (Behind t)
     rules-closed t i p A β r =
         let low = rule-left ws p A β r in
@@ -96,13 +101,13 @@ module _
     end-first : (t : ℕ) → Begins (Fades (RuleOf ws)) (Starts (RuleOf ws) t) (END ∷ []) → END ≡ t
     end-first t (Begins.here h) = terminal-first (RuleOf ws) (rule-left ws) END t (omega arith) h
 
-    begins : (t : ℕ) → Followed (Fades (RuleOf ws)) (Starts (RuleOf ws) t) (Behind t) ⊥ (START ∷ END ∷ [])
+    begins : (t : ℕ) → Followed (Fades (RuleOf ws)) (Starts (RuleOf ws) t) (Behind t) ⊥ startOverEnd
     begins t =
         let low : END < 64 = omega arith in
-        Followed.also (λ b. inr (subst (λ n. member (getD l 0 0) n ≡ true) (end-first t b) start)) (λ a e. absurd e)
+        Followed.also (λ b. inr (subst (λ n. member (getD l 0 0) n ≡ true) (end-first t b) (sound .start))) (λ a e. absurd e)
         (Followed.also {X = END} (λ b. inl low) (λ a e. absurd e) Followed.nothing)
 
-    complete : (k t : ℕ) → Follow (RuleOf ws) (START ∷ END ∷ []) (64 + k) t → member (getD l k 0) t ≡ true
+    complete : (k t : ℕ) → Follow (RuleOf ws) startOverEnd (64 + k) t → member (getD l k 0) t ≡ true
     complete k t f =
         let e : 64 + k - 64 ≡ k = omega arith in
         let i = f .token in
@@ -114,5 +119,5 @@ module _
 
     -- ---- Exact
 
-    pub follows-exact : SoundFollows ws l → FollowsOf ws l
-    follows-exact f = record { follow = λ k t h i. (f k t i, complete k t) }
+    pub follows-exact : FollowsOf ws l
+    follows-exact = record { follow = λ k t h i. (sound .sound k t i, complete k t) }

@@ -1,3 +1,2 @@
-pub mod Standing
 pub mod Follows
 pub mod Feeding

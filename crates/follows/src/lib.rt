@@ -4,7 +4,7 @@ ghost use mathlib.Core.Path.{_≡_};
 ghost use Prim.Native.Nat.{_<_};
 ghost use lib.ListN.{length};
 ghost use Rattle.grammar.specs.Words.{ruleCount};
-ghost use Rattle.follows.specs.Follows.{FollowsOf, Needed, RoundTurn, RuleTurn};
+ghost use Rattle.follows.specs.Follows.{FollowsOf, Needed, RoundTurn, RuleTurn, SoundFollows};
 ghost use Rattle.follows.specs.Feeding.{AddedBehind};
 
 // FOLLOW of each nonterminal.
@@ -12,7 +12,7 @@ pub fn follows(words: &[u16], places: &[u16], null: u64, firsts: &[u64], out: &m
     requires { ⌜ Needed (now words) (now places) null (now firsts) (now out) ⌝ }
     ensures { λ _. ⌜ FollowsOf (now (words .entry)) (now (out .exit)) ⌝ }
 {
-    growth::clear(out);
+    base::clear_numbers(out);
     growth::add_to(out, 0, sets::with(0, 0));
     while round(words, places, null, firsts, out) {}
 }
@@ -20,6 +20,7 @@ pub fn follows(words: &[u16], places: &[u16], null: u64, firsts: &[u64], out: &m
 // A pass over the rules, the first one first: what follows a left side goes to the rules behind it.
 fn round(words: &[u16], places: &[u16], null: u64, firsts: &[u64], out: &mut [u64]) -> bool
     requires { ⌜ Needed (now words) (now places) null (now firsts) (now out) ⌝ }
+    requires { ⌜ SoundFollows (now words) (now out) ⌝ }
     ensures { λ r. ⌜ RoundTurn (now (words .entry)) null (now (firsts .entry)) (now (out .entry)) (now (out .exit)) r ⌝ }
 {
     let count = shape::rule_count(words);
@@ -44,6 +45,7 @@ fn add_rule(
 ) -> bool
     requires { ⌜ Needed (now words) (now places) null (now firsts) (now out) ⌝ }
     requires { ⌜ p < ruleCount (now words) ⌝ }
+    requires { ⌜ SoundFollows (now words) (now out) ⌝ }
     ensures { λ r. ⌜ RuleTurn (now (words .entry)) null (now (firsts .entry)) p (now (out .entry)) (now (out .exit)) r ⌝ }
 {
     let k = shape::left_of(words, places, p);

@@ -6,12 +6,12 @@ use mathlib.Core.List.{List, [], _∷_, _++_}
 use mathlib.Core.Option.{none, some}
 use lib.ListN.{length, getD}
 use Rattle.grammar.specs.Buffers.{filled, cleared}
-use Rattle.grammar.specs.Refusals.{Lowest, Outcome, given, refused}
+use Rattle.grammar.specs.Refusals.{Condition, _unless_, Lowest, Outcome, given, refused}
 use Rattle.grammar.specs.declared.Refusal.{Refusal}
 use Rattle.grammar.specs.declared.Refusal.the-variants.{BadSize, BadCheck, BadBlock, ShortWords}
 
 -- The little endian number of two bytes.
-unfoldable pub pairAt : List ℕ → ℕ → ℕ
+abbrev pub pairAt : List ℕ → ℕ → ℕ
 pairAt bytes at = getD bytes at 0 + 256 * getD bytes (at + 1) 0
 
 -- How many blocks a file has.
@@ -68,20 +68,28 @@ wordsOfBlocks bytes (suc k) = wordsOfBlocks bytes k ++ wordsFrom bytes (512 * k 
 abbrev pub fileWords : List ℕ → List ℕ
 fileWords bytes = wordsOfBlocks bytes (blockCount bytes)
 
--- The reader's conditions, each beside the refusal that it shuts out; `room` is the word buffer's length.
-pub data FileMeets (bytes : List ℕ) (room : ℕ) : Refusal → Type 0 where
-  sized : 0 < length bytes → length bytes % 512 ≡ 0 → length bytes ≤ 5632 → FileMeets bytes room BadSize
-  checked : ((k : ℕ) → k < blockCount bytes → storedCheck bytes k ≡ blockCheck bytes k) → FileMeets bytes room BadCheck
-  numbered : ((k : ℕ) → k < blockCount bytes → BlockFields bytes k) → FileMeets bytes room BadBlock
-  roomy : length (fileWords bytes) ≤ room → FileMeets bytes room ShortWords
+-- "Empty, not a multiple of 512, or over 5,632 bytes" is refused.
+pub record FileSize (size : ℕ) : Type 0 where
+  pub some : 0 < size
+  pub whole : size % 512 ≡ 0
+  pub limit : size ≤ 5632
 
--- The refusals of the reader, in order.
-abbrev pub fileRefusals : List Refusal
-fileRefusals = BadSize ∷ BadCheck ∷ BadBlock ∷ ShortWords ∷ []
+-- Each block has the property.
+abbrev pub EachBlock : List ℕ → (ℕ → Type 0) → Type 0
+EachBlock bytes P = (k : ℕ) → k < blockCount bytes → P k
+
+-- The reader's conditions; `room` is the word buffer's length.
+abbrev pub fileConditions : List ℕ → ℕ → List Condition
+fileConditions bytes room =
+    (BadSize unless FileSize (length bytes))
+    ∷ (BadCheck unless EachBlock bytes (λ k. storedCheck bytes k ≡ blockCheck bytes k))
+    ∷ (BadBlock unless EachBlock bytes (BlockFields bytes))
+    ∷ (ShortWords unless (length (fileWords bytes) ≤ room))
+    ∷ []
 
 -- "Reading yields the words in order and their number; words of the buffer behind them become zero." The reader's
 -- answer, a number of words or a refusal, and the buffer afterwards.
 pub data FileRead (bytes : List ℕ) (room : ℕ) : Outcome ℕ → List ℕ → Type 0 where
-  read : Lowest (FileMeets bytes room) fileRefusals none
+  read : Lowest (fileConditions bytes room) none
       → FileRead bytes room (given (length (fileWords bytes))) (filled room (fileWords bytes))
-  refuse : {r : Refusal} → Lowest (FileMeets bytes room) fileRefusals (some r) → FileRead bytes room (refused r) (cleared room)
+  refuse : {r : Refusal} → Lowest (fileConditions bytes room) (some r) → FileRead bytes room (refused r) (cleared room)

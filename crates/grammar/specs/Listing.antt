@@ -9,7 +9,7 @@ use mathlib.Core.List.{List, [], _∷_, _++_}
 use lib.ListN.{length, take, drop}
 use lib.Dec.{eqb, ltb}
 use Rattle.grammar.specs.File.{pairAt, FileRead}
-use Rattle.grammar.specs.Moves.{Move, Edit, edits, ruleNumbers}
+use Rattle.grammar.specs.Moves.{Move, Edit, edits}
 use Rattle.grammar.specs.Refusals.{numberOf, given, refused}
 use Rattle.grammar.specs.Pace.{Reported}
 use Rattle.grammar.specs.declared.Refusal.{Refusal}
@@ -17,6 +17,7 @@ use Rattle.grammar.specs.declared.Refusal.the-variants.{BadSize}
 use Rattle.grammar.specs.declared.Pace.{Pace}
 use Rattle.grammar.specs.declared.Pace.the-variants.{Idle, Mean}
 use Rattle.grammar.specs.declared.Report.{Report}
+use Rattle.grammar.specs.declared.Counts.{Counts}
 
 -- ---- Standard input: "a u16 block count (1..11), that many blocks, then entries of six bytes, .. to the end"
 
@@ -40,7 +41,7 @@ unfoldable pub fileOf : List ℕ → List ℕ
 fileOf input = take (512 * blocksNamed input) (drop 2 input)
 
 -- The little endian number of four bytes.
-unfoldable pub quadAt : List ℕ → ℕ → ℕ
+abbrev pub quadAt : List ℕ → ℕ → ℕ
 quadAt bytes at = pairAt bytes at + 65536 * pairAt bytes (at + 2)
 
 -- What n "entries of six bytes" from a byte on hold, where `value` gives it for the entry at a byte.
@@ -106,13 +107,13 @@ abbrev pub newline : List ℕ
 newline = 10 ∷ []
 
 -- "A refusal prints one line, `refused` and the number."
-unfoldable pub refusedLine : Refusal → List ℕ
-refusedLine r = field "refused " (numberOf r) ++ newline
+unfoldable pub refusedLine : ℕ → List ℕ
+refusedLine number = field "refused " number ++ newline
 
 -- "The first line has n, moves, edit records and rule numbers listed."
-unfoldable pub okLine : ℕ → ℕ → ℕ → ℕ → List ℕ
-okLine n moves records rules =
-    field "ok tokens " n ++ (field " moves " moves ++ (field " edits " records ++ (field " rules " rules ++ newline)))
+unfoldable pub okLine : ℕ → Counts → List ℕ
+okLine n c =
+    field "ok tokens " n ++ (field " moves " (c .moves) ++ (field " edits " (c .records) ++ (field " rules " (c .listed) ++ newline)))
 
 -- A record's kind: "1 delete, 2 insert".
 unfoldable pub kindWord : ℕ → String
@@ -132,27 +133,26 @@ paceLine count sum Idle = ascii "pace idle" ++ newline
 paceLine count sum (Mean mean) = field "pace cycles " count ++ (field " ms " sum ++ newline)
 
 -- The listing of a log of n tokens that is not refused.
-unfoldable pub listing : ℕ → ℕ → List Edit → ℕ → Report → List ℕ
-listing n moves records rules report =
-    okLine n moves (length records) rules ++ (editLines records ++ paceLine (report .count) (report .sum) (report .pace))
+unfoldable pub listing : ℕ → Counts → List Edit → Report → List ℕ
+listing n counts records report = okLine n counts ++ (editLines records ++ paceLine (report .count) (report .sum) (report .pace))
 
 -- ---- Which listing an input gets: the lowest refusal of the input, the reader and the report, in the table's order, or the
 -- listing of the run. The program "lends 2,783 words for the grammar, 24,576 for edits and 16,384 for rules".
 
 pub data Printed (input : List ℕ) : List ℕ → Type 0 where
   -- The input is refused by 1,
-  uncounted : (Counted input → ⊥) → Printed input (refusedLine BadSize)
+  uncounted : (Counted input → ⊥) → Printed input (refusedLine (numberOf BadSize))
   -- or the file by 1 to 4,
   unread : {r : Refusal} {words : List ℕ} → Counted input → FileRead (fileOf input) 2783 (refused r) words
-      → Printed input (refusedLine r)
+      → Printed input (refusedLine (numberOf r))
   -- or the first n words of the buffer, which are the file's, with the tokens and ticks, by 5 to 12,
   unreported : {n : ℕ} {r : Refusal} {words editBuffer ruleBuffer : List ℕ} → Counted input
       → FileRead (fileOf input) 2783 (given n) words
       → Reported (take n words) (tokensOf input) (ticksOf input) 24576 16384 (refused r) editBuffer ruleBuffer
-      → Printed input (refusedLine r)
+      → Printed input (refusedLine (numberOf r))
   -- or the run has made the moves ms and ended.
-  listed : {n : ℕ} {words editBuffer ruleBuffer : List ℕ} {report : Report} {ms : List Move} → Counted input
+  listed : {n : ℕ} {words editBuffer ruleBuffer : List ℕ} {report : Report} {counts : Counts} {ms : List Move} → Counted input
       → FileRead (fileOf input) 2783 (given n) words
-      → (reported : Reported (take n words) (tokensOf input) (ticksOf input) 24576 16384 (given report) editBuffer ruleBuffer)
+      → (reported : Reported (take n words) (tokensOf input) (ticksOf input) 24576 16384 (given (report, counts)) editBuffer ruleBuffer)
       → reported .outcome ≡ given ms
-      → Printed input (listing (length (tokensOf input)) (length ms) (edits ms) (length (ruleNumbers ms)) report)
+      → Printed input (listing (length (tokensOf input)) counts (edits ms) report)

@@ -8,13 +8,12 @@ use lib.IntN.{pos}
 use Rattle.grammar.specs.Words.{opening, closing, tickUnit}
 use Rattle.grammar.specs.Moves.{Move, edits}
 use Rattle.grammar.specs.Refusals.{Outcome, given, refused}
-use Rattle.grammar.specs.Grammar.{Meets}
-use Rattle.grammar.specs.Run.{LogFits, parseRefusals, RunOf, Settled, editsLeft, rulesLeft}
+use Rattle.grammar.specs.Run.{countsOf, Parses}
 use Rattle.grammar.specs.declared.Refusal.{Refusal}
-use Rattle.grammar.specs.declared.Refusal.the-variants.{BadLog}
 use Rattle.grammar.specs.declared.Pace.{Pace}
 use Rattle.grammar.specs.declared.Pace.the-variants.{Idle, Mean}
 use Rattle.grammar.specs.declared.Report.{Report}
+use Rattle.grammar.specs.declared.Counts.{Counts}
 
 -- ---- Cycles
 
@@ -90,22 +89,15 @@ unfoldable pub reportOf : ℕ → List ℕ → List Span → Report
 reportOf unit ticks cs =
     record { count = length cs; sum = totalMs unit ticks cs; pace = paceOf (length cs) (totalMs unit ticks cs) }
 
--- The report's conditions: the parser's, and that "ticks and tokens" do not "differ in number" under refusal 10.
-pub data PaceMeets (ws log ticks : List ℕ) : Refusal → Type 0 where
-  grammar : {r : Refusal} → Meets ws r → PaceMeets ws log ticks r
-  fits : LogFits ws log → length ticks ≡ length log → PaceMeets ws log ticks BadLog
-
--- The report of the moves, or the refusal.
-pub data Reports (ws ticks : List ℕ) : Outcome (List Move) → Outcome Report → Type 0 where
+-- The report of the moves with the counts of their parse, or the refusal.
+pub data Reports (ws ticks : List ℕ) : Outcome (List Move) → Outcome (Report × Counts) → Type 0 where
   paced : {ms : List Move} {cs : List Span} → CleanCycles (opening ws) (closing ws) ms cs
-      → Reports ws ticks (given ms) (given (reportOf (tickUnit ws) ticks cs))
+      → Reports ws ticks (given ms) (given (reportOf (tickUnit ws) ticks cs, countsOf ms))
   unpaced : {r : Refusal} → Reports ws ticks (refused r) (refused r)
 
--- The report's answer and the two buffers: it "runs the parse itself" and leaves in them what the parse leaves.
-pub record Reported (ws log ticks : List ℕ) (editRoom ruleRoom : ℕ) (answer : Outcome Report)
-    (editBuffer ruleBuffer : List ℕ) : Type 0 where
+-- The report's answer and the two buffers: it "runs the parse itself" and leaves in them what the parse leaves. It asks besides that
+-- "ticks and tokens" do not "differ in number" under refusal 10.
+pub record Reported (ws log ticks : List ℕ) (editRoom ruleRoom : ℕ) (answer : Outcome (Report × Counts)) (es rs : List ℕ) : Type 0 where
   pub outcome : Outcome (List Move)
-  pub settled : Settled (PaceMeets ws log ticks) parseRefusals (RunOf ws log editRoom ruleRoom) outcome
+  pub parses : Parses (length ticks ≡ length log) ws log editRoom ruleRoom outcome es rs
   pub reports : Reports ws ticks outcome answer
-  pub leaves-edits : editBuffer ≡ editsLeft editRoom outcome
-  pub leaves-rules : ruleBuffer ≡ rulesLeft ruleRoom outcome

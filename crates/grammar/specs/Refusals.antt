@@ -1,7 +1,9 @@
 -- Document 01, "Refusal numbers": the numbers, and "the lowest applicable number .. is given, each tested over the whole
 -- input before the next".
 use Prim.Native.Nat.{ℕ}
+use mathlib.Core.Path.{_≡_}
 use mathlib.Core.List.{List, [], _∷_}
+use mathlib.Core.Logic.{_⊎_}
 use mathlib.Core.Option.{Option, none, some}
 use Rattle.grammar.specs.declared.Refusal.{Refusal}
 use Rattle.grammar.specs.declared.Refusal.the-variants.{
@@ -20,7 +22,7 @@ use Rattle.grammar.specs.declared.Refusal.the-variants.{
 }
 
 -- The number of each refusal.
-unfoldable pub numberOf : Refusal → ℕ
+abbrev pub numberOf : Refusal → ℕ
 numberOf BadSize = 1
 numberOf BadCheck = 2
 numberOf BadBlock = 3
@@ -39,9 +41,21 @@ pub data Outcome (A : Type 0) : Type 0 where
   given : A → Outcome A
   refused : Refusal → Outcome A
 
--- The lowest that applies of the refusals in the list, which stand in the order of their numbers. `Met r` says that
--- refusal r does not apply. Each stands for its whole condition, so each is tested over the whole input before the next.
-pub data Lowest (Met : Refusal → Type 0) : List Refusal → Option Refusal → Type 0 where
-  all-met : Lowest Met [] none
-  applies : {r : Refusal} {rs : List Refusal} → (Met r → ⊥) → Lowest Met (r ∷ rs) (some r)
-  passes : {r : Refusal} {rs : List Refusal} {o : Option Refusal} → Met r → Lowest Met rs o → Lowest Met (r ∷ rs) o
+-- A condition, beside the refusal that is given where it does not hold.
+pub record Condition : Type 1 where
+  pub refusal : Refusal
+  pub holds : Type 0
+
+infix 3 _unless_
+abbrev pub _unless_ : Refusal → Type 0 → Condition
+r unless P = record { refusal = r; holds = P }
+
+-- The refusal of the first condition that fails; none where all hold.
+unfoldable pub FirstFailing : List Condition → Option Refusal → Type 0
+FirstFailing [] o = o ≡ none
+FirstFailing (c ∷ cs) o = ((c .holds → ⊥) × (o ≡ some (c .refusal))) ⊎ (c .holds × FirstFailing cs o)
+
+-- The lowest refusal that applies, of conditions in the order of their numbers. Each is its whole condition, so each is tested
+-- over the whole input before the next.
+pub record Lowest (cs : List Condition) (o : Option Refusal) : Type 0 where
+  pub is : FirstFailing cs o

@@ -10,11 +10,12 @@ use lib.Dec.{leb, ltb}
 use Rattle.grammar.specs.Words.{END, terminalCount}
 use Rattle.grammar.specs.Derivation.{First}
 use Rattle.grammar.specs.Cost.{ListCost}
-use Rattle.grammar.specs.Grammar.{Grammar, grammarOf, Meets, grammarRefusals}
+use Rattle.grammar.specs.Grammar.{Grammar, grammarOf, grammarConditions}
 use Rattle.grammar.specs.Buffers.{filled, cleared}
 use Rattle.grammar.specs.Moves.{Move, edits, editWords, ruleNumbers}
-use Rattle.grammar.specs.Refusals.{Lowest, Outcome, given, refused}
+use Rattle.grammar.specs.Refusals.{Condition, _unless_, Lowest, Outcome, given, refused}
 use Rattle.grammar.specs.declared.Refusal.{Refusal}
+use Rattle.grammar.specs.declared.Counts.{Counts}
 use Rattle.grammar.specs.declared.Refusal.the-variants.{BadLog, StackFull, NoRoom}
 
 -- ---- The search: places are counted from 0, so i symbols stand above A(i+1), and those are the ones inserted.
@@ -96,23 +97,18 @@ made s (expanding p β) = Move.expand p ∷ []
 made s dropping = Move.drop (getD (s .stack) 0 END) ∷ []
 made s (correcting j i) = deletes (s .place) (take j (s .rest)) ++ inserts (s .place + j) (take i (s .stack))
 
--- The state behind them: "one pop, next token"; "one pop, the right side is pushed, the rule number is listed"; "one
--- pop, nothing listed"; "one pop each. Token r is then current".
+-- A state with another stack, place and rest, in which what the moves list is counted.
+abbrev pub counting : State → List Move → List ℕ → ℕ → List ℕ → State
+counting s ms σ p ρ =
+    record { stack = σ; place = p; rest = ρ; records = s .records + length (edits ms); listed = s .listed + length (ruleNumbers ms) }
+
+-- The state behind them: "one pop, next token"; "one pop, the right side is pushed"; "one pop"; "one pop each. Token r is then
+-- current".
 unfoldable pub next : State → Pick → State
-next s matching =
-    record { stack = tail (s .stack); place = s .place + 1; rest = tail (s .rest); records = s .records; listed = s .listed }
-next s (expanding p β) =
-    record { stack = β ++ tail (s .stack); place = s .place; rest = s .rest; records = s .records; listed = s .listed + 1 }
-next s dropping =
-    record { stack = tail (s .stack); place = s .place; rest = s .rest; records = s .records; listed = s .listed }
-next s (correcting j i) =
-    record {
-      stack = drop i (s .stack);
-      place = s .place + j;
-      rest = drop j (s .rest);
-      records = s .records + (j + i);
-      listed = s .listed;
-    }
+next s matching = counting s (made s matching) (tail (s .stack)) (s .place + 1) (tail (s .rest))
+next s (expanding p β) = counting s (made s (expanding p β)) (β ++ tail (s .stack)) (s .place) (s .rest)
+next s dropping = counting s (made s dropping) (tail (s .stack)) (s .place) (s .rest)
+next s (correcting j i) = counting s (made s (correcting j i)) (drop i (s .stack)) (s .place + j) (drop j (s .rest))
 
 -- What bounds a run: the most symbols on the stack, and the lengths of the edit buffer and the rule buffer in words.
 pub record Limits : Type 0 where
@@ -121,14 +117,15 @@ pub record Limits : Type 0 where
   pub ruleRoom : ℕ
 
 -- The refusal that a choice meets. 11: "an expand would leave more than 256 symbols on the stack, END counted"; 12: "the
--- next rule number or edit record does not fit", a record where not all three words fit; "an expand tests 11 first". All
--- moves of a correction are records, so one of them does not fit exactly where the last does not.
+-- next rule number or edit record does not fit", a record where not all three words fit; "an expand tests 11 first". One of the
+-- records of a correction does not fit exactly where the last does not.
 unfoldable pub limit : Limits → State → Pick → Option Refusal
 limit L s matching = none
 limit L s (expanding p β) =
-    cond (ltb (L .height) (length (β ++ tail (s .stack)))) (some StackFull) (cond (ltb (s .listed) (L .ruleRoom)) none (some NoRoom))
+    cond (ltb (L .height) (length (next s (expanding p β) .stack))) (some StackFull)
+    (cond (leb (next s (expanding p β) .listed) (L .ruleRoom)) none (some NoRoom))
 limit L s dropping = none
-limit L s (correcting j i) = cond (leb (3 * (s .records + (j + i))) (L .editRoom)) none (some NoRoom)
+limit L s (correcting j i) = cond (leb (3 * next s (correcting j i) .records) (L .editRoom)) none (some NoRoom)
 
 -- ---- The run
 
@@ -148,21 +145,15 @@ pub record LogFits (ws log : List ℕ) : Type 0 where
   pub low : (i : ℕ) → i < length log → 1 ≤ getD log i END
   pub high : (i : ℕ) → i < length log → getD log i END < terminalCount ws
 
--- The parser's conditions: those of the grammar check, and refusal 10.
-pub data ParseMeets (ws log : List ℕ) : Refusal → Type 0 where
-  grammar : {r : Refusal} → Meets ws r → ParseMeets ws log r
-  fits : LogFits ws log → ParseMeets ws log BadLog
-
--- Refusals 5 to 10, in order.
-abbrev pub parseRefusals : List Refusal
-parseRefusals = grammarRefusals ++ (BadLog ∷ [])
+-- The conditions before a run, refusals 5 to 10: those of the grammar check, then the log, with what else its caller asks under 10.
+abbrev pub runConditions : List ℕ → List ℕ → Type 0 → List Condition
+runConditions ws log Asked = grammarConditions ws ++ ((BadLog unless (LogFits ws log × Asked)) ∷ [])
 
 -- What a run comes to: its moves; or the lowest refusal that applies before it; or the refusal that it meets.
-pub data Settled (Met : Refusal → Type 0) (rs : List Refusal) (Runs : List Move → Option Refusal → Type 0) : Outcome (List Move)
-    → Type 0 where
-  whole : {ms : List Move} → Lowest Met rs none → Runs ms none → Settled Met rs Runs (given ms)
-  before : {r : Refusal} → Lowest Met rs (some r) → Settled Met rs Runs (refused r)
-  within : {ms : List Move} {r : Refusal} → Lowest Met rs none → Runs ms (some r) → Settled Met rs Runs (refused r)
+pub data Settled (cs : List Condition) (Runs : List Move → Option Refusal → Type 0) : Outcome (List Move) → Type 0 where
+  whole : {ms : List Move} → Lowest cs none → Runs ms none → Settled cs Runs (given ms)
+  before : {r : Refusal} → Lowest cs (some r) → Settled cs Runs (refused r)
+  within : {ms : List Move} {r : Refusal} → Lowest cs none → Runs ms (some r) → Settled cs Runs (refused r)
 
 -- The run of a log by the words' grammar, from START over END, with at most 256 symbols on the stack and the room of the
 -- two lent buffers.
@@ -171,11 +162,6 @@ RunOf ws log editRoom ruleRoom =
     Run (grammarOf ws) (record { height = 256; editRoom = editRoom; ruleRoom = ruleRoom }) (started (grammarOf ws .begin) log)
 
 -- The counts that the parser returns: moves, edit records and rule numbers listed.
-pub record Counts : Type 0 where
-  pub moves : ℕ
-  pub records : ℕ
-  pub listed : ℕ
-
 abbrev pub countsOf : List Move → Counts
 countsOf ms = record { moves = length ms; records = length (edits ms); listed = length (ruleNumbers ms) }
 
@@ -183,19 +169,24 @@ unfoldable pub answered : Outcome (List Move) → Outcome Counts
 answered (given ms) = given (countsOf ms)
 answered (refused r) = refused r
 
--- What the edit buffer and the rule buffer then hold.
-unfoldable pub editsLeft : ℕ → Outcome (List Move) → List ℕ
-editsLeft room (given ms) = filled room (editWords (edits ms))
-editsLeft room (refused r) = cleared room
+-- What a lent buffer then holds, of which the moves have these words.
+unfoldable pub left : (List Move → List ℕ) → ℕ → Outcome (List Move) → List ℕ
+left wordsOf room (given ms) = filled room (wordsOf ms)
+left wordsOf room (refused r) = cleared room
 
-unfoldable pub rulesLeft : ℕ → Outcome (List Move) → List ℕ
-rulesLeft room (given ms) = filled room (ruleNumbers ms)
-rulesLeft room (refused r) = cleared room
+-- What a log comes to and leaves in the edit buffer (es) and the rule buffer (rs), for every list of words, every log and all lengths
+-- of the buffers.
+pub record Parses (Asked : Type 0) (ws log : List ℕ) (editRoom ruleRoom : ℕ) (outcome : Outcome (List Move)) (es rs : List ℕ) : Type 0 where
+  pub settled : Settled (runConditions ws log Asked) (RunOf ws log editRoom ruleRoom) outcome
+  pub leaves-edits : es ≡ left (λ ms. editWords (edits ms)) editRoom outcome
+  pub leaves-rules : rs ≡ left ruleNumbers ruleRoom outcome
 
--- The parser's answer and its two buffers, for every list of words, every log and all lengths of the buffers.
-pub record Parsed (ws log : List ℕ) (editRoom ruleRoom : ℕ) (answer : Outcome Counts) (editBuffer ruleBuffer : List ℕ) : Type 0 where
+-- The answer and the two buffers of a parse that asks besides for `Asked`.
+pub record ParsedAsking (Asked : Type 0) (ws log : List ℕ) (editRoom ruleRoom : ℕ) (answer : Outcome Counts) (es rs : List ℕ) : Type 0 where
   pub outcome : Outcome (List Move)
-  pub settled : Settled (ParseMeets ws log) parseRefusals (RunOf ws log editRoom ruleRoom) outcome
+  pub parses : Parses Asked ws log editRoom ruleRoom outcome es rs
   pub answers : answer ≡ answered outcome
-  pub leaves-edits : editBuffer ≡ editsLeft editRoom outcome
-  pub leaves-rules : ruleBuffer ≡ rulesLeft ruleRoom outcome
+
+-- The parser's answer and its two buffers: it asks no more.
+abbrev pub Parsed : List ℕ → List ℕ → ℕ → ℕ → Outcome Counts → List ℕ → List ℕ → Type 0
+Parsed = ParsedAsking (Unit {0})

@@ -12,41 +12,41 @@ word ws i = getD ws i 0
 -- ---- The header: words 0 to 5
 
 -- T, terminals, END included.
-abbrev pub terminalCount : List ℕ → ℕ
+unfoldable pub terminalCount : List ℕ → ℕ
 terminalCount ws = word ws 0
 
 -- N, nonterminals.
-abbrev pub nonterminalCount : List ℕ → ℕ
+unfoldable pub nonterminalCount : List ℕ → ℕ
 nonterminalCount ws = word ws 1
 
 -- P, rules.
-abbrev pub ruleCount : List ℕ → ℕ
+unfoldable pub ruleCount : List ℕ → ℕ
 ruleCount ws = word ws 2
 
 -- The opening mark of a cycle.
-abbrev pub opening : List ℕ → ℕ
+unfoldable pub opening : List ℕ → ℕ
 opening ws = word ws 3
 
 -- The closing mark of a cycle.
-abbrev pub closing : List ℕ → ℕ
+unfoldable pub closing : List ℕ → ℕ
 closing ws = word ws 4
 
 -- The tick unit: 0 one ms, 1 ten ms.
-abbrev pub tickUnit : List ℕ → ℕ
+unfoldable pub tickUnit : List ℕ → ℕ
 tickUnit ws = word ws 5
 
 -- How many words the header has: the terminals' words begin behind it.
-abbrev pub headerSize : List ℕ → ℕ
+unfoldable pub headerSize : List ℕ → ℕ
 headerSize ws = 6
 
 -- ---- Then 2 words for each terminal, then P rules
 
 -- The insert cost of terminal t.
-abbrev pub insertCost : List ℕ → ℕ → ℕ
+unfoldable pub insertCost : List ℕ → ℕ → ℕ
 insertCost ws t = word ws (headerSize ws + 2 * t)
 
 -- The reliability of terminal t, as it stands in the words. (END's counts as unlimited: `Reliable` of Grammar.antt.)
-abbrev pub reliability : List ℕ → ℕ → ℕ
+unfoldable pub reliability : List ℕ → ℕ → ℕ
 reliability ws t = word ws (headerSize ws + 2 * t + 1)
 
 -- Where rule p stands: the first behind the terminals' words, each other behind the one before it. A rule is its left
@@ -56,11 +56,11 @@ rulePlace ws zero = headerSize ws + 2 * terminalCount ws
 rulePlace ws (suc p) = rulePlace ws p + 2 + word ws (rulePlace ws p + 1)
 
 -- "A rule's left side k names symbol 64 + k."
-abbrev pub leftSide : List ℕ → ℕ → ℕ
+unfoldable pub leftSide : List ℕ → ℕ → ℕ
 leftSide ws p = 64 + word ws (rulePlace ws p)
 
 -- How many symbols the right side of rule p has.
-abbrev pub rightSize : List ℕ → ℕ → ℕ
+unfoldable pub rightSize : List ℕ → ℕ → ℕ
 rightSize ws p = word ws (rulePlace ws p + 1)
 
 -- The right side of rule p.

@@ -1,9 +1,18 @@
 -- What follows from the definitions, for every grammar and every log. Open Demands first; the rest stands in the order in
 -- which it is proved.
 pub mod Demands
+pub mod Conditions
+pub mod Outcomes
 pub mod Pigeonhole
 pub mod Leftmost
+pub mod Masks
+pub mod Tables
 pub mod Closed
+pub mod Members
+pub mod Rewriting
+pub mod Firsts
+pub mod Follows
+pub mod RightSides
 pub mod Reach
 pub mod Sides
 pub mod Good
@@ -11,7 +20,6 @@ pub mod Forms
 pub mod Predictive
 pub mod Leads
 pub mod Chosen
-pub mod Search
 pub mod Token
 pub mod States
 pub mod Determined

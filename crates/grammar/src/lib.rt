@@ -1,6 +1,8 @@
 // The answers that document 01 names. What they mean stands in specs/, in document 01's order and words.
+ghost use mathlib.Core.Path.{_≡_};
+ghost use Rattle.grammar.specs.Refusals.{numberOf};
 
-// Document 01, "Refusal numbers". `numberOf` of specs/Refusals.antt gives each its number.
+// Document 01, "Refusal numbers". `numberOf` of specs/Refusals.antt and `number_of` give each its number.
 pub enum Refusal {
     // 1: the file is empty, not a multiple of 512, or over 5,632 bytes.
     BadSize,
@@ -26,6 +28,33 @@ pub enum Refusal {
     StackFull,
     // 12: the next rule number or edit record does not fit.
     NoRoom,
+}
+
+// The number of a refusal.
+pub fn number_of(refusal: Refusal) -> u32
+    ensures { λ r. ⌜ r ≡ numberOf refusal ⌝ }
+{
+    match refusal {
+        Refusal::BadSize => 1,
+        Refusal::BadCheck => 2,
+        Refusal::BadBlock => 3,
+        Refusal::ShortWords => 4,
+        Refusal::BadShape => 5,
+        Refusal::Unreachable => 6,
+        Refusal::NoString => 7,
+        Refusal::TooCostly => 8,
+        Refusal::SharedPredict => 9,
+        Refusal::BadLog => 10,
+        Refusal::StackFull => 11,
+        Refusal::NoRoom => 12,
+    }
+}
+
+// Document 01, "Moves": what a run counts: moves, edit records and rule numbers listed.
+pub struct Counts {
+    pub moves: usize,
+    pub records: usize,
+    pub listed: usize,
 }
 
 // Document 01, "Pace": a station without a clean cycle is idle and carries no time.

@@ -1,3 +1,3 @@
 pub mod Sums
-pub mod Grown
+pub mod Added
 pub mod Turns

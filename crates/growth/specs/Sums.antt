@@ -1,28 +1,26 @@
--- The sum of a list of sets as numbers. A set that gains a member is a larger number, so the sum is a measure for rounds
--- that only add.
+-- The sum of a list of numbers, by which a table is ranked: a set that gains a member is a larger number, so the sum of sets
+-- rises, and the sum of costs falls with each. Then what is known of a list that is filled from the front.
 use Prim.Native.Nat.{ℕ, zero, suc, _+_, _*_, _^_, _≤_, _<_}
 use mathlib.Core.Path.{_≡_, refl, sym, ap, _∙_, subst}
-use mathlib.Core.Bool.{Bool, true, false}
 use mathlib.Core.List.{List, [], _∷_, _++_, append-nil}
 use native.Mathlib.Omega.{arith}
+use borrow.Author.Count.{below-more}
 use native.Mathlib.Nat.{suc-mul}
 use lib.ListN.{length, getD, set, replicate, drop, drop-of-length-le}
 use lib.Seq.{getD-set-same, getD-set-other}
-use lib.Dec.{eqb}
 use mir.Syntax.{w64}
 use mir.Val.{Fits}
-use borrow.Author.Tests.{eqb-true, eqb-false}
 
 unfoldable pub sum : List ℕ → ℕ
 sum [] = 0
 sum (x ∷ l) = x + sum l
 
--- A larger element, a larger sum.
-pub sum-larger : (l : List ℕ) (k v : ℕ) → k < length l → getD l k 0 < v → sum l < sum (set l k v)
+-- One element set.
+pub sum-set : (l : List ℕ) (i v : ℕ) → i < length l → sum (set l i v) + getD l i 0 ≡ sum l + v
 unfolding sum
-sum-larger [] k v h m = absurd (omega arith)
-sum-larger (x ∷ l) zero v h m = omega arith
-sum-larger (x ∷ l) (suc k) v h m = omega (arith, sum-larger l k v (omega arith) m)
+sum-set [] i v h = absurd (omega arith)
+sum-set (x ∷ l) zero v h = omega arith
+sum-set (x ∷ l) (suc i) v h = omega (arith, sum-set l i v (omega arith))
 
 -- Where no element is above b, the sum is at most b for each.
 pub sum-bound : (l : List ℕ) (b : ℕ) → ((i : ℕ) → getD l i 0 ≤ b) → sum l ≤ length l * b
@@ -33,7 +31,7 @@ sum-bound (x ∷ l) b f =
     let head = f 0 in
     omega (arith, suc-mul (length l) b)
 
--- A list all of whose elements were made v.
+-- A list all of whose elements were made 0.
 pub filled : (l : List ℕ) (i : ℕ) → i ≡ length l → replicate i 0 ++ drop i l ≡ replicate (length l) 0
 filled l i e =
     ap (λ r. replicate i 0 ++ r) (drop-of-length-le l {i = i} (omega arith)) ∙ (append-nil (replicate i 0) ∙ ap (λ n. replicate n 0) e)
@@ -41,16 +39,10 @@ filled l i e =
 -- A list that is filled from the front, one element a turn: what is known of each element in front of p.
 pub filled-more : (P : ℕ → ℕ → Type 0) (l : List ℕ) (p v : ℕ) → p < length l → ((q : ℕ) → q < p → P q (getD l q 0)) → P p v
     → (q : ℕ) → q < p + 1 → P q (getD (set l p v) q 0)
-filled-more P l p v h f g q b = at (eqb q p) refl
-  where
-    at : (e : Bool) → eqb q p ≡ e → P q (getD (set l p v) q 0)
-    at true e =
-        let same : p ≡ q = omega (arith, eqb-true q p e) in
-        subst (λ n. P n (getD (set l p v) n 0)) same (subst (P p) (sym (getD-set-same l p v 0 h)) g)
-    at false e =
-        let n = eqb-false q p e in
-        let below : q < p = omega arith in
-        subst (P q) (sym (getD-set-other l p q v 0 n)) (f q below)
+filled-more P l p v h f g =
+    below-more (λ q. P q (getD (set l p v) q 0)) p
+    (λ q below. subst (P q) (sym (getD-set-other l p q v 0 (λ same. omega arith))) (f q below))
+    (subst (P p) (sym (getD-set-same l p v 0 h)) g)
 
 -- A list of zeros has nothing else.
 pub all-zero : (n k : ℕ) → _≡_ {A = ℕ} (getD (replicate n 0) k 0) 0

@@ -1,9 +1,10 @@
-// A slice of sets that only grow: what a round of a fixpoint does to it (specs/Grown.antt, specs/Turns.antt).
+// A slice of sets that only grow (specs/Added.antt), and the law of all loops that go on until nothing changes
+// (specs/Turns.antt).
 ghost use mathlib.Core.Path.{_≡_};
 ghost use mathlib.Core.Bool.{_||_};
 ghost use Prim.Native.Nat.{_<_};
-ghost use lib.ListN.{length, replicate};
-ghost use Rattle.growth.specs.Grown.{Added};
+ghost use lib.ListN.{length};
+ghost use Rattle.growth.specs.Added.{Added};
 
 // Adds the members of the mask to set k, and answers whether one of them was not there.
 pub fn add_to(all: &mut [u64], k: usize, mask: u64) -> bool
@@ -24,15 +25,4 @@ pub fn either(a: bool, b: bool) -> bool
     ensures { λ r. ⌜ r ≡ (a || b) ⌝ }
 {
     if a { true } else { b }
-}
-
-// Every set becomes empty.
-pub fn clear(all: &mut [u64])
-    ensures { λ _. ⌜ now (all .exit) ≡ replicate (length (now (all .entry))) 0 ⌝ }
-{
-    let mut i = 0;
-    while i < all.len() {
-        all[i] = 0;
-        i += 1;
-    }
 }

@@ -11,7 +11,7 @@ fn main() {
         read_rest();
     }
     let mut out = [0u8; 155817];
-    let count = show::show(&input[..size], &mut out);
+    let count = listing::show(&input[..size], &mut out);
     io::write_all(1, &out[..count]);
 }
 

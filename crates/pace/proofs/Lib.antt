@@ -2,5 +2,3 @@
 pub mod Passing
 pub mod Looking
 pub mod Watching
-pub mod Clearing
-pub mod Answering

@@ -1,5 +1,5 @@
 -- How a watch passes a place, test by test; and what the tests of numbers say.
-use Prim.Native.Nat.{ℕ, zero, suc, _+_, _*_, _%_, _≤_, _<_}
+use Prim.Native.Nat.{ℕ, zero, suc, _+_}
 use mathlib.Core.Path.{_≡_, refl, sym, ap, _∙_}
 use mathlib.Core.Bool.{Bool, true, false, cond, not, _&&_, true≢false, false≢true}
 use native.Mathlib.Omega.{arith}
@@ -7,9 +7,10 @@ use lib.Dec.{eqb}
 use lib.IntN.{pos}
 use lib.Ieee.{binary64, div, ofInt}
 use borrow.Author.Tests.{eqb-true, eqb-false}
-use Rattle.grammar.specs.Pace.{wrapped, unitMs, paceOf}
+use Rattle.base.specs.Telling.{Tells}
+use Rattle.grammar.specs.Pace.{wrapped, paceOf}
 use Rattle.grammar.specs.declared.Pace.the-variants.{Idle, Mean}
-use Rattle.pace.specs.Watch.{Tells, Small, spoiledBy, closedBy, openedBy, stepBy, passedBy}
+use Rattle.pace.specs.Watch.{Small, spoiledBy, closedBy, openedBy, stepBy, passedBy}
 use Rattle.pace.specs.declared.Marks.{Marks}
 use Rattle.pace.specs.declared.Here.{Here}
 use Rattle.pace.specs.declared.Watch.{Watch}
@@ -37,15 +38,15 @@ unfolding passedBy stepBy
 passed-deleted marks here token tick w v e s =
     let a = deleted-mark (here .deleted) (eqb token (marks .closing)) e in
     let b = deleted-mark (here .deleted) (eqb token (marks .opening)) e in
-    let u = cond (not (here .deleted) && eqb token (marks .closing)) (closedBy (marks .unit) tick v) v in
-    let first : u ≡ v = cond-false (not (here .deleted) && eqb token (marks .closing)) (closedBy (marks .unit) tick v) v a in
+    let u = cond (not (here .deleted) && eqb token (marks .closing)) (closedBy tick v) v in
+    let first : u ≡ v = cond-false (not (here .deleted) && eqb token (marks .closing)) (closedBy tick v) v a in
     let second : cond (not (here .deleted) && eqb token (marks .opening)) (openedBy tick u) u ≡ u =
     cond-false (not (here .deleted) && eqb token (marks .opening)) (openedBy tick u) u b in
     cc
 
 -- A kept token closes and opens.
 pub passed-kept : (marks : Marks) (here : Here) (token tick : ℕ) (w v u r : Watch) → here .deleted ≡ false
-    → v ≡ cond (here .edited) (spoiledBy w) w → u ≡ cond (eqb token (marks .closing)) (closedBy (marks .unit) tick v) v
+    → v ≡ cond (here .edited) (spoiledBy w) w → u ≡ cond (eqb token (marks .closing)) (closedBy tick v) v
     → r ≡ cond (eqb token (marks .opening)) (openedBy tick u) u → r ≡ passedBy marks here token tick w
 unfolding passedBy stepBy
 passed-kept marks here token tick w v u r e s f g =
@@ -67,37 +68,20 @@ equal-tells m n f g = record { yes = λ e. f (eqb-true m n e); no = λ e p. eqb-
 pub no-tells : {P : Type 0} → (P → ⊥) → Tells P false
 no-tells n = record { yes = λ e. absurd (false≢true e); no = λ e p. n p }
 
-wrapped-is : (a b r : ℕ) → a < 4294967296 → b < 4294967296 → r < 4294967296 → (r + a) % 4294967296 ≡ b → r ≡ wrapped a b
-unfolding wrapped
-wrapped-is a b r x y z e = omega arith
-
--- The wrapping difference is the tick difference modulo 2^32: r times 1 for unit 0,
-pub one-ms : (a b unit r : ℕ) → a < 4294967296 → b < 4294967296 → r < 4294967296 → (r + a) % 4294967296 ≡ b → unit ≡ 0
-    → (r ≡ wrapped a b * unitMs unit) × (r ≤ 42949672950)
-unfolding unitMs
-one-ms a b zero r x y z e u = let w = wrapped-is a b r x y z e in (omega arith, omega arith)
-one-ms a b (suc n) r x y z e u = absurd (omega arith)
-
--- and times 10 for unit 1.
-pub ten-ms : (a b unit r : ℕ) → a < 4294967296 → b < 4294967296 → r < 4294967296 → (r + a) % 4294967296 ≡ b → (unit ≡ 0 → ⊥)
-    → (r * 10 ≡ wrapped a b * unitMs unit) × (r * 10 ≤ 42949672950)
-unfolding unitMs
-ten-ms a b zero r x y z e n = absurd (n refl)
-ten-ms a b (suc u) r x y z e n = let w = wrapped-is a b r x y z e in (omega arith, omega arith)
-
 -- An open cycle is closed with its time; without one nothing is.
-pub closed-begun : (unit tick t : ℕ) (w : Watch) → w .begun ≡ true → t ≡ wrapped (w .since) tick * unitMs unit
-    → record { begun = false; since = w .since; count = w .count + 1; sum = w .sum + t } ≡ closedBy unit tick w
+pub closed-begun : (tick t : ℕ) (w : Watch) → w .begun ≡ true → t ≡ wrapped (w .since) tick
+    → record { begun = false; since = w .since; count = w .count + 1; sum = w .sum + t } ≡ closedBy tick w
 unfolding closedBy
-closed-begun unit tick t w e f =
+closed-begun tick t w e f =
     let counted : Watch =
-    record { begun = false; since = w .since; count = w .count + 1; sum = w .sum + wrapped (w .since) tick * unitMs unit } in
+    record { begun = false; since = w .since; count = w .count + 1; sum = w .sum + wrapped (w .since) tick } in
     ap (λ (x : ℕ). record { begun = false; since = w .since; count = w .count + 1; sum = w .sum + x }) f
     ∙ sym (cond-true (w .begun) counted w e)
 
-pub closed-idle : (unit tick : ℕ) (w : Watch) → w .begun ≡ false → w ≡ closedBy unit tick w
+pub closed-idle : (closes : Bool) (tick : ℕ) (w : Watch) → w .begun ≡ false → w ≡ cond closes (closedBy tick w) w
 unfolding closedBy
-closed-idle unit tick w e = sym (cond-false (w .begun) _ w e)
+closed-idle true tick w e = sym (cond-false (w .begun) _ w e)
+closed-idle false tick w e = refl
 
 pub pace-idle : (count sum : ℕ) → count ≡ 0 → Idle ≡ paceOf count sum
 unfolding paceOf

@@ -1,22 +1,25 @@
 -- What the pass over the places keeps: the cursor stands before the records of the place, the cycles are few, and the watch
 -- stands at the place, whichever run it was that left these edits.
-use Prim.Native.Nat.{ℕ, _+_, _≤_, _<_}
-use mathlib.Core.Path.{_≡_, refl, sym, subst}
+use Prim.Native.Nat.{ℕ, _+_, _*_, _≤_, _<_}
+use mathlib.Core.Path.{_≡_, refl, sym, ap, _∙_, subst}
 use mathlib.Core.Bool.{Bool, true, false, not, _&&_, false≢true}
 use mathlib.Core.List.{List}
+use native.Mathlib.Nat.{mul-le-mul}
 use native.Mathlib.Omega.{arith}
 use lib.ListN.{length, getD}
 use lib.Dec.{eqb}
 use borrow.Author.Tests.{eqb-true}
 use Rattle.grammar.specs.Words.{opening, closing, tickUnit}
 use Rattle.grammar.specs.Moves.{Move}
-use Rattle.grammar.specs.Pace.{Reports, paceOf}
+use Rattle.grammar.specs.Run.{countsOf}
+use Rattle.grammar.specs.Pace.{Reports, paceOf, unitMs}
 use Rattle.grammar.specs.Refusals.{given}
 use Rattle.grammar.specs.declared.Pace.{Pace}
-use Rattle.pace.specs.Watch.{Cursor, Stands, Few, Small, Lent, Ran, Finds, passedBy}
+use Rattle.pace.specs.Watch.{Cursor, Stands, Few, Small, Lent, Ran, Finds, marksOf, passedBy}
 use Rattle.pace.specs.Standing.{Standing, standing-start, standing-next}
 use Rattle.pace.specs.Ended.{edited-tells, kept-tells, found-report}
-use Rattle.pace.specs.Few.{few-start, few-next, few-small}
+use Rattle.pace.specs.Found.{Found}
+use Rattle.pace.specs.Few.{few-start, few-next, few-small, unit-most}
 use Rattle.pace.specs.declared.Marks.{Marks}
 use Rattle.pace.specs.declared.Here.{Here}
 use Rattle.pace.specs.declared.Watch.{Watch}
@@ -31,9 +34,6 @@ pub record Watching (ws log ticks words : List ℕ) (records : ℕ) (watch : Wat
   pub cursor : Cursor words records at place
   pub few : Few place watch
   pub standing : (ms : List Move) → Ran ws log words records ms → StandsAt ws ticks ms place watch
-
-abbrev pub marksOf : List ℕ → Marks
-marksOf ws = record { opening = opening ws; closing = closing ws; unit = tickUnit ws }
 
 -- A mark that opens is none of both marks 0.
 opens-marked : (t o : ℕ) (d : Bool) → 1 ≤ t → (not d && eqb t o) ≡ true → 1 ≤ o
@@ -62,16 +62,21 @@ module _ {ws log ticks words : List ℕ} {records : ℕ} {watch : Watch} {at pla
   pub watching-small : Small watch
   watching-small = few-small (omega (arith, watching .passed, watching .lent .tokens)) (watching .few)
 
-  -- Nothing is lost when the sum becomes an f64.
-  pub watching-exact : watch .sum ≤ 9007199254740992
-  watching-exact = let s = watching-small in omega (arith, s .count, s .sum)
+  -- Nothing is lost when the sum in ms becomes an f64.
+  pub watching-exact : {ms : ℕ} → ms ≡ unitMs (tickUnit ws) → watch .sum * ms ≤ 9007199254740992
+  watching-exact e =
+      let s = watching-small in
+      let most : watch .sum ≤ 17587891073025 = omega (arith, s .count, s .sum) in
+      let product = mul-le-mul most (unit-most (tickUnit ws)) in
+      subst (λ (m : ℕ). watch .sum * m ≤ 9007199254740992) (sym e) (omega (arith, product))
 
   -- A place is passed.
-  pub watching-next : {here : Here} {after : Watch} → place < length log → Stands words records place here
-      → after ≡ passedBy (marksOf ws) here (getD log place 0) (getD ticks place 0) watch
+  pub watching-next : {here : Here} {after : Watch} {marks : Marks} → marks ≡ marksOf ws → place < length log
+      → Stands words records place here → after ≡ passedBy marks here (getD log place 0) (getD ticks place 0) watch
       → Watching ws log ticks words records after (here .behind) (place + 1)
   unfolding passedBy
-  watching-next {here} l stands e =
+  watching-next {here} {after} m l stands f =
+      let e = f ∙ ap (λ n. passedBy n here (getD log place 0) (getD ticks place 0) watch) m in
       let token = getD log place 0 in
       let closes = not (here .deleted) && eqb token (closing ws) in
       let opens = not (here .deleted) && eqb token (opening ws) in
@@ -81,7 +86,7 @@ module _ {ws log ticks words : List ℕ} {records : ℕ} {watch : Watch} {at pla
         cursor = stands .cursor;
         few =
             subst (λ w. Few (place + 1) w) (sym e)
-            (few-next (here .edited) closes opens (tickUnit ws) (getD ticks place 0) watch (watching .few));
+            (few-next (here .edited) closes opens (getD ticks place 0) watch (watching .few));
         standing = λ ms ran.
             subst (λ w. StandsAt ws ticks ms (place + 1) w) (sym e)
             (standing-next (opening ws) (closing ws) (tickUnit ws) ticks ms place (here .edited) closes opens (getD ticks place 0)
@@ -94,15 +99,23 @@ module _ {ws log ticks words : List ℕ} {records : ℕ} {watch : Watch} {at pla
       }
 
   -- All places are passed.
-  pub watching-end : {pace : Pace} → length log ≤ place → pace ≡ paceOf (watch .count) (watch .sum)
-      → Finds ws log ticks words records (record { count = watch .count; sum = watch .sum; pace = pace })
-  watching-end l e =
+  pub watching-end : {ms : ℕ} {pace : Pace} → length log ≤ place → ms ≡ unitMs (tickUnit ws)
+      → pace ≡ paceOf (watch .count) (watch .sum * ms)
+      → Finds ws log ticks words records (record { count = watch .count; sum = watch .sum * ms; pace = pace })
+  watching-end {ms = m} l u e =
       let all : place ≡ length log = omega (arith, watching .passed) in
       record {
         of-run = λ ms ran.
             let stood = subst (λ b. StandsAt ws ticks ms b watch) all (watching .standing ms ran) in
             subst
-            (λ p. Reports ws ticks (given ms) (given (record { count = watch .count; sum = watch .sum; pace = p })))
+            (λ p. Reports ws ticks (given ms) (given (record { count = watch .count; sum = watch .sum * m; pace = p }, countsOf ms)))
             (sym e)
-            (found-report ws log words records ms ran (stood .found));
+            (found-report ws log words records ms ran
+            (subst (λ (n : ℕ). Found (opening ws) (closing ws) (tickUnit ws) ticks ms (length log) (watch .count) (watch .sum * n)) (sym u)
+            (stood .found)));
       }
+
+-- Equal marks are equal records.
+pub marks-same : {a b c d : ℕ} → a ≡ c → b ≡ d
+    → _≡_ {A = Marks} (record { opening = a; closing = b }) (record { opening = c; closing = d })
+marks-same x y = cc

@@ -1,6 +1,6 @@
 -- A run that ended: what its edit records and its log say of each place, and that what the watch found by the log's end are
 -- all the clean cycles.
-use Prim.Native.Nat.{ℕ, _+_, _-_, _≤_, _<_}
+use Prim.Native.Nat.{ℕ, _-_, _≤_, _<_}
 use mathlib.Core.Path.{_≡_, refl, sym, ap, _∙_, subst}
 use mathlib.Core.Bool.{Bool, true, false, not, _&&_, false≢true}
 use mathlib.Core.List.{List, [], _∷_, _++_, List·Memᴰ}
@@ -10,16 +10,18 @@ use lib.ListN.{length, getD, length-append, replicate, List·getD-append}
 use lib.Seq.{getD-append-seam}
 use lib.Dec.{eqb}
 use borrow.Author.Tests.{eqb-true, eqb-false}
+use Rattle.base.specs.Telling.{Tells}
 use Rattle.grammar.specs.Words.{END, Marks, opening, closing, tickUnit}
 use Rattle.grammar.specs.Moves.{Move, edits, editWords}
 use Rattle.grammar.specs.Buffers.{filled}
+use Rattle.grammar.specs.Run.{countsOf}
 use Rattle.grammar.specs.Pace.{Kept, Edited, Span, Clean, CleanCycles, Reports, paceOf, reportOf}
 use Rattle.grammar.specs.Refusals.{given}
 use Rattle.grammar.specs.theory.Places.{Walk, Deleted, walk-run, places-rise, kept-token, kept-apart, kept-or-deleted}
 use Rattle.pace.specs.Order.{below-or-not}
 use Rattle.pace.specs.Recorded.{entry-at, index-of, records-rise}
 use Rattle.pace.specs.Found.{Found}
-use Rattle.pace.specs.Watch.{Tells, SomeAt, DeleteAt, kindAt, placeAt, Records, Ran}
+use Rattle.pace.specs.Watch.{SomeAt, DeleteAt, kindAt, placeAt, Records, Ran}
 
 -- A closing mark is there where an opening mark is.
 closing-marked : {T o c : ℕ} → Marks T o c → 1 ≤ o → 1 ≤ c
@@ -142,10 +144,10 @@ module _ (ws log words : List ℕ) (records : ℕ) (ms : List Move) (ran : Ran w
 
   -- So they make the report.
   pub found-report : {count sum : ℕ} {ticks : List ℕ} → Found (opening ws) (closing ws) (tickUnit ws) ticks ms (length log) count sum
-      → Reports ws ticks (given ms) (given (record { count = count; sum = sum; pace = paceOf count sum }))
+      → Reports ws ticks (given ms) (given (record { count = count; sum = sum; pace = paceOf count sum }, countsOf ms))
   unfolding reportOf
   found-report {count} {sum} {ticks} f =
       let counts = f .counts in
       let sums = f .sums in
       let same : reportOf (tickUnit ws) ticks (f .cycles) ≡ record { count = count; sum = sum; pace = paceOf count sum } = cc in
-      subst (λ r. Reports ws ticks (given ms) (given r)) same (Reports.paced (found-all f))
+      subst (λ r. Reports ws ticks (given ms) (given (r, countsOf ms))) same (Reports.paced (found-all f))

@@ -1,5 +1,5 @@
 -- Fewer cycles than places: a place closes at most one, and the first none. So the counts stay small.
-use Prim.Native.Nat.{ℕ, zero, suc, _+_, _*_, _≤_}
+use Prim.Native.Nat.{ℕ, zero, suc, _+_, _≤_}
 use mathlib.Core.Path.{_≡_, refl}
 use mathlib.Core.Bool.{Bool, true, false, cond, false≢true}
 use native.Mathlib.Omega.{arith}
@@ -7,11 +7,16 @@ use Rattle.grammar.specs.Pace.{wrapped, unitMs}
 use Rattle.pace.specs.Watch.{Few, Small, spoiledBy, closedBy, openedBy, stepBy}
 use Rattle.pace.specs.declared.Watch.{Watch}
 
--- A time is below 2^32 ticks of at most 10 ms.
-pub time-most : (a b unit : ℕ) → wrapped a b * unitMs unit ≤ 42949672950
-unfolding wrapped unitMs
-time-most a b zero = omega arith
-time-most a b (suc u) = omega arith
+-- A time is below 2^32 ticks,
+pub time-most : (a b : ℕ) → wrapped a b ≤ 4294967295
+unfolding wrapped
+time-most a b = omega arith
+
+-- each of at most 10 ms.
+pub unit-most : (unit : ℕ) → unitMs unit ≤ 10
+unfolding unitMs
+unit-most zero = omega arith
+unit-most (suc u) = omega arith
 
 few-spoiled : {b : ℕ} (edited : Bool) (w : Watch) → Few b w → Few b (cond edited (spoiledBy w) w)
 unfolding spoiledBy
@@ -22,40 +27,40 @@ few-spoiled false w f = f
 few-more : {b : ℕ} (w : Watch) → Few b w → Few (b + 1) w
 few-more w f = record { count = omega (arith, f .count); sum = f .sum; started = λ e. omega arith }
 
-few-close : {b : ℕ} (unit tick : ℕ) (w : Watch) → Few b w → Few (b + 1) (closedBy unit tick w)
+few-close : {b : ℕ} (tick : ℕ) (w : Watch) → Few b w → Few (b + 1) (closedBy tick w)
 unfolding closedBy
-few-close {b} unit tick w f = go (w .begun) refl
+few-close {b} tick w f = go (w .begun) refl
   where
     go : (q : Bool) → w .begun ≡ q
         → Few (b + 1)
         (cond q
-        (record { begun = false; since = w .since; count = w .count + 1; sum = w .sum + wrapped (w .since) tick * unitMs unit })
+        (record { begun = false; since = w .since; count = w .count + 1; sum = w .sum + wrapped (w .since) tick })
         w)
     go true e =
         let some = f .started e in
         record {
           count = omega (arith, f .count);
-          sum = omega (arith, f .sum, time-most (w .since) tick unit);
+          sum = omega (arith, f .sum, time-most (w .since) tick);
           started = λ e. absurd (false≢true e);
         }
     go false e = few-more w f
 
-few-closed : {b : ℕ} (closes : Bool) (unit tick : ℕ) (w : Watch) → Few b w → Few (b + 1) (cond closes (closedBy unit tick w) w)
-few-closed true unit tick w f = few-close unit tick w f
-few-closed false unit tick w f = few-more w f
+few-closed : {b : ℕ} (closes : Bool) (tick : ℕ) (w : Watch) → Few b w → Few (b + 1) (cond closes (closedBy tick w) w)
+few-closed true tick w f = few-close tick w f
+few-closed false tick w f = few-more w f
 
 few-opened : (b : ℕ) (opens : Bool) (tick : ℕ) (w : Watch) → Few (b + 1) w → Few (b + 1) (cond opens (openedBy tick w) w)
 unfolding openedBy
 few-opened b true tick w f = record { count = f .count; sum = f .sum; started = λ e. omega arith }
 few-opened b false tick w f = f
 
-pub few-next : {b : ℕ} (edited closes opens : Bool) (unit tick : ℕ) (w : Watch) → Few b w
-    → Few (b + 1) (stepBy edited closes opens unit tick w)
+pub few-next : {b : ℕ} (edited closes opens : Bool) (tick : ℕ) (w : Watch) → Few b w
+    → Few (b + 1) (stepBy edited closes opens tick w)
 unfolding stepBy
-few-next {b} edited closes opens unit tick w f =
+few-next {b} edited closes opens tick w f =
     let spoiled = cond edited (spoiledBy w) w in
-    let closed = cond closes (closedBy unit tick spoiled) spoiled in
-    few-opened b opens tick closed (few-closed closes unit tick spoiled (few-spoiled edited w f))
+    let closed = cond closes (closedBy tick spoiled) spoiled in
+    few-opened b opens tick closed (few-closed closes tick spoiled (few-spoiled edited w f))
 
 pub few-start : (since : ℕ) → Few 0 (record { begun = false; since = since; count = 0; sum = 0 })
 few-start since = record { count = omega arith; sum = omega arith; started = λ e. absurd (false≢true e) }

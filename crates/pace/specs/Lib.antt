@@ -8,7 +8,6 @@ pub mod Standing
 pub mod Recorded
 pub mod Ended
 pub mod Few
-pub mod Ticked
 pub mod Settling
 pub mod Told
 pub mod Exact

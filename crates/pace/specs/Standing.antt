@@ -7,11 +7,12 @@ use mathlib.Core.List.{List}
 use mathlib.Core.Logic.{⊎-elim}
 use native.Mathlib.Omega.{arith}
 use lib.ListN.{getD}
+use Rattle.base.specs.Telling.{Tells}
 use Rattle.grammar.specs.Moves.{Move}
 use Rattle.grammar.specs.Pace.{Kept, Edited, Span, Clean, wrapped, unitMs, cycleMs}
 use Rattle.pace.specs.Found.{Found, found-start, found-none, found-one}
 use Rattle.pace.specs.Order.{below-or-not, below-next}
-use Rattle.pace.specs.Watch.{Tells, spoiledBy, closedBy, openedBy, stepBy}
+use Rattle.pace.specs.Watch.{spoiledBy, closedBy, openedBy, stepBy}
 use Rattle.pace.specs.declared.Watch.{Watch}
 
 -- An opening mark is kept at place a, and behind it there is no kept opening mark before x, no kept closing mark before y and
@@ -24,9 +25,9 @@ pub record OpenAt (o c : ℕ) (ms : List Move) (x y e a : ℕ) : Type 0 where
   pub no-closing : (p : ℕ) → a < p → p < y → Kept ms p c → ⊥
   pub unedited : (p : ℕ) → a < p → p < e → Edited ms p → ⊥
 
--- The watch stands at b: what it found, and whether a cycle is open.
+-- The watch stands at b: what it found, with its sum in ticks, and whether a cycle is open.
 pub record Standing (o c unit : ℕ) (ticks : List ℕ) (ms : List Move) (b x y e : ℕ) (w : Watch) : Type 0 where
-  pub found : Found o c unit ticks ms b (w .count) (w .sum)
+  pub found : Found o c unit ticks ms b (w .count) (w .sum * unitMs unit)
   pub begun : w .begun ≡ true → (a : ℕ) × OpenAt o c ms x y e a × (w .since ≡ getD ticks a 0)
   pub idle : w .begun ≡ false → (a : ℕ) → OpenAt o c ms x y e a → ⊥
 
@@ -37,7 +38,7 @@ module _ (o c unit : ℕ) (ticks : List ℕ) (ms : List Move) where
   pub standing-start : (since : ℕ) → Standing o c unit ticks ms 0 0 0 0 (record { begun = false; since = since; count = 0; sum = 0 })
   standing-start since =
       record {
-        found = found-start o c unit ticks ms;
+        found = subst (λ (z : ℕ). Found o c unit ticks ms 0 0 z) (omega arith) (found-start o c unit ticks ms);
         begun = λ e. absurd (false≢true e);
         idle = λ e a h. omega (arith, h .earlier);
       }
@@ -124,14 +125,16 @@ module _ (o c unit : ℕ) (ticks : List ℕ) (ms : List Move) where
     -- Then the closing mark: it counts the open cycle, and ends it.
     close-begun : (tick : ℕ) (w : Watch) → tick ≡ getD ticks b 0 → Kept ms b c → w .begun ≡ true
         → Standing o c unit ticks ms b b b (b + 1) w
-        → Found o c unit ticks ms (b + 1) (w .count + 1) (w .sum + wrapped (w .since) tick * unitMs unit)
+        → Found o c unit ticks ms (b + 1) (w .count + 1) ((w .sum + wrapped (w .since) tick) * unitMs unit)
     unfolding cycleMs
     close-begun tick w t k e s =
         let h = s .begun e in
         let u : Span = record { opened = h .0; closed = b } in
-        let time : cycleMs unit ticks u ≡ wrapped (w .since) tick * unitMs unit =
-        sym (ap (λ (z : ℕ). wrapped z tick * unitMs unit) (h .2) ∙ ap (λ (z : ℕ). wrapped (getD ticks (h .0) 0) z * unitMs unit) t) in
-        subst (λ (z : ℕ). Found o c unit ticks ms (b + 1) (w .count + 1) (w .sum + z)) time
+        let since = h .2 in
+        let time : wrapped (getD ticks (h .0) 0) (getD ticks b 0) ≡ wrapped (w .since) tick = cc in
+        let total : w .sum * unitMs unit + cycleMs unit ticks u ≡ (w .sum + wrapped (w .since) tick) * unitMs unit =
+        ap (λ (z : ℕ). w .sum * unitMs unit + z * unitMs unit) time ∙ omega arith in
+        subst (λ (z : ℕ). Found o c unit ticks ms (b + 1) (w .count + 1) z) total
         (found-one o c unit ticks ms b u refl (open-clean (h .0) (h .1) k)
         (λ v y d.
         let same : v .opened ≡ h .0 = open-one (v .opened) (h .0) (clean-open v y d) (h .1) in
@@ -143,14 +146,14 @@ module _ (o c unit : ℕ) (ticks : List ℕ) (ms : List Move) where
     ended k a h = h .no-closing b (h .earlier) (omega arith) k
 
     stage-close : (tick : ℕ) (w : Watch) → tick ≡ getD ticks b 0 → Kept ms b c → Standing o c unit ticks ms b b b (b + 1) w
-        → Standing o c unit ticks ms (b + 1) b (b + 1) (b + 1) (closedBy unit tick w)
+        → Standing o c unit ticks ms (b + 1) b (b + 1) (b + 1) (closedBy tick w)
     unfolding closedBy
     stage-close tick w t k s = go (w .begun) refl
       where
         go : (q : Bool) → w .begun ≡ q
             → Standing o c unit ticks ms (b + 1) b (b + 1) (b + 1)
             (cond q
-            (record { begun = false; since = w .since; count = w .count + 1; sum = w .sum + wrapped (w .since) tick * unitMs unit })
+            (record { begun = false; since = w .since; count = w .count + 1; sum = w .sum + wrapped (w .since) tick })
             w)
         go true e =
             record {
@@ -167,7 +170,7 @@ module _ (o c unit : ℕ) (ticks : List ℕ) (ms : List Move) where
 
     stage-closing : (closes : Bool) (tick : ℕ) (w : Watch) → tick ≡ getD ticks b 0 → Tells (Kept ms b c) closes
         → Standing o c unit ticks ms b b b (b + 1) w
-        → Standing o c unit ticks ms (b + 1) b (b + 1) (b + 1) (cond closes (closedBy unit tick w) w)
+        → Standing o c unit ticks ms (b + 1) b (b + 1) (b + 1) (cond closes (closedBy tick w) w)
     stage-closing true tick w t k s = stage-close tick w t (k .yes refl) s
     stage-closing false tick w t n s =
         record {
@@ -259,9 +262,9 @@ module _ (o c unit : ℕ) (ticks : List ℕ) (ms : List Move) where
     -- A place is passed.
     pub standing-next : (edited closes opens : Bool) (tick : ℕ) (w : Watch) → tick ≡ getD ticks b 0 → (opens ≡ true → 1 ≤ o)
         → Tells (Edited ms b) edited → Tells (Kept ms b c) closes → Tells (Kept ms b o) opens → Standing o c unit ticks ms b b b b w
-        → Standing o c unit ticks ms (b + 1) (b + 1) (b + 1) (b + 1) (stepBy edited closes opens unit tick w)
+        → Standing o c unit ticks ms (b + 1) (b + 1) (b + 1) (b + 1) (stepBy edited closes opens tick w)
     unfolding stepBy
     standing-next edited closes opens tick w t l x y z s =
         let spoiled = cond edited (spoiledBy w) w in
-        let closed = cond closes (closedBy unit tick spoiled) spoiled in
+        let closed = cond closes (closedBy tick spoiled) spoiled in
         stage-opening opens tick closed t l z (stage-closing closes tick spoiled t y (stage-edits edited w x s))

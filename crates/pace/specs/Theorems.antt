@@ -16,11 +16,11 @@ use Rattle.grammar.specs.Run.{RunOf}
 use Rattle.grammar.specs.Pace.{Span, Clean, unitMs, cycleMs, Reported}
 use Rattle.grammar.specs.declared.Pace.the-variants.{Idle}
 use Rattle.grammar.specs.declared.Report.{Report}
+use Rattle.grammar.specs.declared.Counts.{Counts}
 use Rattle.grammar.specs.theory.Demands as Demands
-use Rattle.pace.specs.Answer.{pacedOf, paced-same, Accounted, account-same}
+use Rattle.pace.specs.Answer.{pacedOf, paced-same}
 use Rattle.pace.specs.Told.{told, idle-no-cycle, no-cycle-idle, told-4095, told-most, wrapped-true}
 use Rattle.pace.specs.Exact.{exact}
-use Rattle.pace.specs.declared.Account.{Account}
 use Rattle.pace.specs.declared.Paced.{Paced}
 
 -- The report is the only one, and so is every word of the buffers.
@@ -31,16 +31,8 @@ report-unique r s p q =
     let same = Demands.reported-unique p q in
     (paced-same r s (same .0), same .1, same .2)
 
--- So is the report with the counts of its parse.
-pub account-unique : {ws log ticks : List ℕ} {editRoom ruleRoom : ℕ} (r s : Account) {x y u v : List ℕ}
-    → Accounted ws log ticks editRoom ruleRoom r x u → Accounted ws log ticks editRoom ruleRoom s y v
-    → (r ≡ s) × (x ≡ y) × (u ≡ v)
-account-unique r s p q =
-    let same = Demands.reported-unique (p .reported) (q .reported) in
-    (account-same r s p q (same .0), same .1, same .2)
-
-module _ {ws log ticks : List ℕ} {editRoom ruleRoom : ℕ} {report : Report} {x y : List ℕ}
-    (reported : Reported ws log ticks editRoom ruleRoom (given report) x y) where
+module _ {ws log ticks : List ℕ} {editRoom ruleRoom : ℕ} {report : Report} {counts : Counts} {x y : List ℕ}
+    (reported : Reported ws log ticks editRoom ruleRoom (given (report, counts)) x y) where
   -- The station is idle exactly when no clean cycle exists in the run, whose moves are ms.
   pub idle-exactly : {ms : List Move} → RunOf ws log editRoom ruleRoom ms none
       → (report .pace ≡ Idle) ↔ ((s : Span) → Clean (opening ws) (closing ws) ms s → ⊥)

@@ -3,22 +3,23 @@ use Prim.Native.Nat.{ℕ, zero, suc, _+_, _-_, _*_, _%_, _≤_, _<_}
 use mathlib.Core.Path.{_≡_, refl, sym, ap, _∙_, subst}
 use mathlib.Core.List.{List, [], _∷_, List·Memᴰ, List·Memᴰ·head, List·Memᴰ·tail, List·Memᴰ·not-nil}
 use mathlib.Core.Option.{none}
+use native.Mathlib.Nat.{mul-le-mul}
 use native.Mathlib.Omega.{arith}
 use lib.ListN.{length, getD}
 use Rattle.grammar.specs.Words.{opening, closing, tickUnit}
 use Rattle.grammar.specs.Moves.{Move, edits, editWords}
 use Rattle.grammar.specs.Buffers.{filled}
-use Rattle.grammar.specs.Refusals.{Outcome, given, refused}
-use Rattle.grammar.specs.Run.{parseRefusals, RunOf, Settled}
+use Rattle.grammar.specs.Refusals.{Outcome, given}
+use Rattle.grammar.specs.Run.{RunOf, Settled, runConditions}
 use Rattle.grammar.specs.Pace.{Span, Clean, Ascending, CleanCycles, wrapped, cycleMs, totalMs}
-use Rattle.grammar.specs.Pace.{paceOf, reportOf, PaceMeets, Reports, Reported}
+use Rattle.grammar.specs.Pace.{paceOf, reportOf, Reports, Reported}
 use Rattle.grammar.specs.declared.Pace.the-variants.{Idle}
-use Rattle.grammar.specs.declared.Refusal.{Refusal}
 use Rattle.grammar.specs.declared.Report.{Report}
+use Rattle.grammar.specs.declared.Counts.{Counts}
+use Rattle.grammar.specs.theory.Outcomes.{given-refused, given-same}
 use Rattle.grammar.specs.theory.Answers.{Admitted, admitted, runs-determined}
 use Rattle.pace.specs.Ended.{closes-within}
-use Rattle.pace.specs.Few.{time-most}
-use Rattle.pace.specs.Ticked.{parse-lowest}
+use Rattle.pace.specs.Few.{time-most, unit-most}
 use Rattle.pace.specs.Watch.{Ran}
 
 -- The run that was reported, and its clean cycles.
@@ -30,30 +31,24 @@ pub record Told (ws log ticks : List ℕ) (editRoom ruleRoom : ℕ) (report : Re
   pub clean : CleanCycles (opening ws) (closing ws) moves cycles
   pub made : report ≡ reportOf (tickUnit ws) ticks cycles
 
-given-same : {a b : Report} → given a ≡ given b → a ≡ b
-given-same e = cc
-
-refused-given : {r : Refusal} {a : Report} → refused r ≡ given a → ⊥
-refused-given e = let z : _≡_ {A = ℕ} 0 1 = cc in omega arith
-
-told-by : {ws log ticks : List ℕ} {editRoom ruleRoom : ℕ} {o : Outcome (List Move)} {a : Outcome Report} {report : Report}
-    → Settled (PaceMeets ws log ticks) parseRefusals (RunOf ws log editRoom ruleRoom) o → Reports ws ticks o a → a ≡ given report
-    → Told ws log ticks editRoom ruleRoom report
+told-by : {ws log ticks : List ℕ} {editRoom ruleRoom : ℕ} {o : Outcome (List Move)} {a : Outcome (Report × Counts)} {report : Report}
+    {counts : Counts} → Settled (runConditions ws log (length ticks ≡ length log)) (RunOf ws log editRoom ruleRoom) o
+    → Reports ws ticks o a → a ≡ given (report, counts) → Told ws log ticks editRoom ruleRoom report
 told-by (Settled.whole {ms = ms} l r) (Reports.paced {cs = cs} c) e =
     record {
-      admits = admitted (parse-lowest l refl);
+      admits = admitted l;
       moves = ms;
       run = r;
       cycles = cs;
       clean = c;
-      made = sym (given-same e);
+      made = sym (ap (λ (x : Report × Counts). x .0) (given-same e));
     }
-told-by (Settled.before l) Reports.unpaced e = absurd (refused-given e)
-told-by (Settled.within l r) Reports.unpaced e = absurd (refused-given e)
+told-by (Settled.before l) Reports.unpaced e = absurd (given-refused e refl)
+told-by (Settled.within l r) Reports.unpaced e = absurd (given-refused e refl)
 
-pub told : {ws log ticks : List ℕ} {editRoom ruleRoom : ℕ} {report : Report} {x y : List ℕ}
-    → Reported ws log ticks editRoom ruleRoom (given report) x y → Told ws log ticks editRoom ruleRoom report
-told p = told-by (p .settled) (p .reports) refl
+pub told : {ws log ticks : List ℕ} {editRoom ruleRoom : ℕ} {report : Report} {counts : Counts} {x y : List ℕ}
+    → Reported ws log ticks editRoom ruleRoom (given (report, counts)) x y → Told ws log ticks editRoom ruleRoom report
+told p = told-by (p .parses .settled) (p .reports) refl
 
 -- ---- Idle
 
@@ -135,7 +130,7 @@ unfolding totalMs cycleMs
 total-most unit ticks [] = omega arith
 total-most unit ticks (s ∷ ss) =
     let rest = total-most unit ticks ss in
-    let one = time-most (getD ticks (s .opened) 0) (getD ticks (s .closed) 0) unit in
+    let one = mul-le-mul (time-most (getD ticks (s .opened) 0) (getD ticks (s .closed) 0)) (unit-most unit) in
     omega arith
 
 module _ {ws log ticks : List ℕ} {editRoom ruleRoom : ℕ} {report : Report} (t : Told ws log ticks editRoom ruleRoom report) where

@@ -7,21 +7,18 @@ use mathlib.Core.List.{List}
 use mathlib.Core.Option.{none}
 use lib.ListN.{length, getD}
 use lib.Dec.{eqb}
+use Rattle.base.specs.Telling.{Tells}
+use Rattle.grammar.specs.Words.{Shaped, opening, closing}
 use Rattle.grammar.specs.Moves.{Move, edits, editWords}
 use Rattle.grammar.specs.Buffers.{filled}
-use Rattle.grammar.specs.Run.{RunOf}
-use Rattle.grammar.specs.Pace.{wrapped, unitMs, Reports}
+use Rattle.grammar.specs.Run.{RunOf, countsOf}
+use Rattle.grammar.specs.Pace.{wrapped, Reports}
 use Rattle.grammar.specs.Refusals.{given}
 use Rattle.grammar.specs.declared.Report.{Report}
 use Rattle.grammar.specs.theory.Answers.{Admitted}
 use Rattle.pace.specs.declared.Marks.{Marks}
 use Rattle.pace.specs.declared.Here.{Here}
 use Rattle.pace.specs.declared.Watch.{Watch}
-
--- A test's answer r tells whether P holds.
-pub record Tells (P : Type 0) (r : Bool) : Type 0 where
-  pub yes : r ≡ true → P
-  pub no : r ≡ false → P → ⊥
 
 -- ---- The edit records
 
@@ -63,11 +60,11 @@ pub record Stands (words : List ℕ) (records p : ℕ) (here : Here) : Type 0 wh
 unfoldable pub spoiledBy : Watch → Watch
 spoiledBy w = record { begun = false; since = w .since; count = w .count; sum = w .sum }
 
--- A closing mark counts the open cycle, which is clean, with its time.
-unfoldable pub closedBy : ℕ → ℕ → Watch → Watch
-closedBy unit tick w =
+-- A closing mark counts the open cycle, which is clean, with its time in ticks.
+unfoldable pub closedBy : ℕ → Watch → Watch
+closedBy tick w =
     cond (w .begun)
-    (record { begun = false; since = w .since; count = w .count + 1; sum = w .sum + wrapped (w .since) tick * unitMs unit })
+    (record { begun = false; since = w .since; count = w .count + 1; sum = w .sum + wrapped (w .since) tick })
     w
 
 -- An opening mark opens a cycle.
@@ -75,36 +72,40 @@ unfoldable pub openedBy : ℕ → Watch → Watch
 openedBy tick w = record { begun = true; since = tick; count = w .count; sum = w .sum }
 
 -- A place is passed: first its edits, then the closing mark, then the opening mark. A mark that is both does both.
-unfoldable pub stepBy : Bool → Bool → Bool → ℕ → ℕ → Watch → Watch
+unfoldable pub stepBy : Bool → Bool → Bool → ℕ → Watch → Watch
 unfolding spoiledBy closedBy openedBy
-stepBy edited closes opens unit tick w =
+stepBy edited closes opens tick w =
     let spoiled = cond edited (spoiledBy w) w in
-    let closed = cond closes (closedBy unit tick spoiled) spoiled in
+    let closed = cond closes (closedBy tick spoiled) spoiled in
     cond opens (openedBy tick closed) closed
+
+-- The marks of the words.
+abbrev pub marksOf : List ℕ → Marks
+marksOf ws = record { opening = opening ws; closing = closing ws }
 
 -- A mark counts where its token is kept.
 unfoldable pub passedBy : Marks → Here → ℕ → ℕ → Watch → Watch
 unfolding stepBy
 passedBy marks here token tick w =
     stepBy (here .edited) (not (here .deleted) && eqb token (marks .closing)) (not (here .deleted) && eqb token (marks .opening))
-    (marks .unit) tick w
+    tick w
 
 -- Few cycles so far: nothing overflows at one more.
 pub record Small (w : Watch) : Type 0 where
   pub count : w .count ≤ 4095
-  pub sum : w .sum ≤ w .count * 42949672950
+  pub sum : w .sum ≤ w .count * 4294967295
 
 -- Fewer cycles than places passed: the first place closes none, and no place closes two.
 pub record Few (places : ℕ) (w : Watch) : Type 0 where
   pub count : w .count ≤ places - 1
-  pub sum : w .sum ≤ w .count * 42949672950
+  pub sum : w .sum ≤ w .count * 4294967295
   pub started : w .begun ≡ true → 1 ≤ places
 
 -- ---- The run
 
--- What is lent: words with a header, a log that is not too long with its ticks, and edit records.
+-- What is lent: words that have the shape, a log that is not too long with its ticks, and edit records.
 pub record Lent (ws log ticks words : List ℕ) (records : ℕ) : Type 0 where
-  pub header : 6 ≤ length ws
+  pub shaped : Shaped ws
   pub tokens : length log ≤ 4096
   pub ticked : length ticks ≡ length log
   pub rising : Records words records
@@ -120,4 +121,4 @@ pub record Ran (ws log words : List ℕ) (records : ℕ) (ms : List Move) : Type
 
 -- The report is that of the run, whichever run it was that left these edits.
 pub record Finds (ws log ticks words : List ℕ) (records : ℕ) (report : Report) : Type 0 where
-  pub of-run : (ms : List Move) → Ran ws log words records ms → Reports ws ticks (given ms) (given report)
+  pub of-run : (ms : List Move) → Ran ws log words records ms → Reports ws ticks (given ms) (given (report, countsOf ms))

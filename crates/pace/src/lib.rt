@@ -1,57 +1,45 @@
 // The pace report: document 01, "Pace". The cycles are found in one pass over the log's places, with a cursor in the edit
 // records, whose places never fall.
 ghost use mathlib.Core.Path.{_≡_};
+ghost use mathlib.Core.Bool.{true};
 ghost use Prim.Native.Nat.{_+_, _*_, _≤_, _<_};
 ghost use lib.ListN.{length};
-ghost use Rattle.grammar.specs.Buffers.{cleared};
+ghost use Rattle.grammar.specs.Words.{Shaped, tickUnit};
 ghost use Rattle.grammar.specs.Pace.{Reported, paceOf, unitMs, wrapped};
-ghost use Rattle.pace.specs.Answer.{Accounted, Left, lowestOf, pacedOf};
+ghost use Rattle.base.specs.Telling.{Tells};
+ghost use Rattle.pace.specs.Answer.{pacedOf};
 ghost use Rattle.pace.specs.Watch.{
   Cursor,
   Finds,
   Lent,
   Small,
   Stands,
-  Tells,
   closedBy,
   kindAt,
+  marksOf,
   openedBy,
   passedBy,
   placeAt,
   spoiledBy,
 };
+use grammar::Counts;
 use grammar::Refusal;
 use grammar::Report;
-use repair::Parsing;
+use parser::Parsing;
 
-// The answer: the report, or a refusal. `pacedOf` of specs/Answer.antt says what each stands for.
+// The answer: the report with the counts of its parse, or a refusal. `pacedOf` of specs/Answer.antt says what each stands for.
 pub enum Paced {
-    Reported(Report),
+    Reported(Report, Counts),
     Refused(Refusal),
 }
-
-// The same answer with the counts of its parse: moves, edit records and rule numbers listed. `Accounted` of specs/Answer.antt
-// says what each stands for.
-pub enum Account {
-    Reported(Report, usize, usize, usize),
-    Refused(Refusal),
-}
-
-// Document 01, "Symbols and grammar words": words 3 to 5.
-const OPENING: usize = 3;
-
-const CLOSING: usize = 4;
-
-const UNIT: usize = 5;
 
 // "Kind (1 delete, 2 insert)."
 const DELETE: u16 = 1;
 
-// The marks of a cycle and the tick unit.
+// The marks of a cycle.
 struct Marks {
     opening: u16,
     closing: u16,
-    unit: u16,
 }
 
 // What the edit records say of one place: whether one has it, whether its token is deleted, and the first record behind
@@ -62,8 +50,8 @@ struct Here {
     behind: usize,
 }
 
-// The cycles so far. `begun` says that an opening mark was kept at tick `since`, and that behind it no mark was kept and no
-// edit stands: the next closing mark makes a clean cycle.
+// The cycles so far, with the sum of their times in ticks. `begun` says that an opening mark was kept at tick `since`, and that
+// behind it no mark was kept and no edit stands: the next closing mark makes a clean cycle.
 struct Watch {
     begun: bool,
     since: u32,
@@ -71,8 +59,9 @@ struct Watch {
     sum: u64,
 }
 
-// The report of a log, from unchecked grammar words: it runs the parse, and leaves in the buffers what the parse leaves.
-pub fn pace(
+// The report of a log, from unchecked grammar words: it runs the parse, asking for as many ticks as tokens, and leaves in the buffers
+// what the parse leaves.
+pub fn report(
     words: &[u16],
     log: &[u16],
     ticks: &[u32],
@@ -82,82 +71,14 @@ pub fn pace(
     ensures { λ r. ⌜ Reported (now (words .entry)) (now (log .entry)) (now (ticks .entry)) (length (now (edits .entry)))
         (length (now (rules .entry))) (pacedOf r) (now (edits .exit)) (now (rules .exit)) ⌝ }
 {
-    let account = report(words, log, ticks, edits, rules);
-    match account {
-        Account::Reported(told, _, _, _) => Paced::Reported(told),
-        Account::Refused(refusal) => Paced::Refused(refusal),
-    }
-}
-
-// The same with the counts of the parse, for a caller that needs both.
-pub fn report(
-    words: &[u16],
-    log: &[u16],
-    ticks: &[u32],
-    edits: &mut [u16],
-    rules: &mut [u16],
-) -> Account
-    ensures { λ r. ⌜ Accounted (now (words .entry)) (now (log .entry)) (now (ticks .entry)) (length (now (edits .entry)))
-        (length (now (rules .entry))) r (now (edits .exit)) (now (rules .exit)) ⌝ }
-{
-    let parsing = repair::parse(words, log, edits, rules);
+    let timed = ticks.len() == log.len();
+    let parsing = parser::parse_asking(words, log, timed, edits, rules);
     match parsing {
-        Parsing::Counts(moves, records, listed) => {
-            ended(words, log, ticks, edits, rules, moves, records, listed)
+        Parsing::Parsed(counts) => {
+            let told = cycles(words, log, ticks, edits, counts.records);
+            Paced::Reported(told, counts)
         }
-        Parsing::Refused(refusal) => Account::Refused(lowest(refusal, ticks.len() == log.len())),
-    }
-}
-
-// ---- The answer, once the parse is known
-
-// The refusal that stands where the parse was refused: 5 to 9 come before 10, which also asks for as many ticks as tokens, and
-// 10 before 11 and 12.
-fn lowest(refusal: Refusal, timed: bool) -> Refusal
-    ensures { λ r. ⌜ r ≡ lowestOf refusal timed ⌝ }
-{
-    if timed {
-        return refusal;
-    }
-    match refusal {
-        Refusal::StackFull => Refusal::BadLog,
-        Refusal::NoRoom => Refusal::BadLog,
-        _ => refusal,
-    }
-}
-
-// The answer where the parse's run ended: refusal 10 clears the buffers, the report leaves in them what the parse left.
-fn ended(
-    words: &[u16],
-    log: &[u16],
-    ticks: &[u32],
-    edits: &mut [u16],
-    rules: &mut [u16],
-    moves: usize,
-    records: usize,
-    listed: usize,
-) -> Account
-    requires { ⌜ Left (now words) (now log) moves records listed (now edits) (now rules) ⌝ }
-    ensures { λ r. ⌜ Accounted (now (words .entry)) (now (log .entry)) (now (ticks .entry)) (length (now (edits .entry)))
-        (length (now (rules .entry))) r (now (edits .exit)) (now (rules .exit)) ⌝ }
-{
-    if ticks.len() != log.len() {
-        clear(edits);
-        clear(rules);
-        return Account::Refused(Refusal::BadLog);
-    }
-    let told = cycles(words, log, ticks, edits, records);
-    Account::Reported(told, moves, records, listed)
-}
-
-// Makes every word of the buffer zero.
-fn clear(words: &mut [u16])
-    ensures { λ _. ⌜ now (words .exit) ≡ cleared (length (now (words .entry))) ⌝ }
-{
-    let mut i = 0;
-    while i < words.len() {
-        words[i] = 0;
-        i += 1;
+        Parsing::Refused(refusal) => Paced::Refused(refusal),
     }
 }
 
@@ -168,11 +89,7 @@ fn cycles(words: &[u16], log: &[u16], ticks: &[u32], edits: &[u16], records: usi
     requires { ⌜ Lent (now words) (now log) (now ticks) (now edits) records ⌝ }
     ensures { λ r. ⌜ Finds (now (words .entry)) (now (log .entry)) (now (ticks .entry)) (now (edits .entry)) records r ⌝ }
 {
-    let marks = Marks {
-        opening: words[OPENING],
-        closing: words[CLOSING],
-        unit: words[UNIT],
-    };
+    let marks = marks_of(words);
     let mut watch = Watch {
         begun: false,
         since: 0,
@@ -188,12 +105,31 @@ fn cycles(words: &[u16], log: &[u16], ticks: &[u32], edits: &[u16], records: usi
         place += 1;
     }
     let count = watch.count;
-    let sum = watch.sum;
+    let sum = watch.sum * unit_ms(words);
     Report {
         count,
         sum,
         pace: pace_of(count, sum),
     }
+}
+
+// The marks of the words.
+fn marks_of(words: &[u16]) -> Marks
+    requires { ⌜ Shaped (now words) ⌝ }
+    ensures { λ r. ⌜ r ≡ marksOf (now (words .entry)) ⌝ }
+{
+    Marks {
+        opening: shape::opening(words),
+        closing: shape::closing(words),
+    }
+}
+
+// The tick unit in ms: "0 one ms, 1 ten ms".
+fn unit_ms(words: &[u16]) -> u64
+    requires { ⌜ Shaped (now words) ⌝ }
+    ensures { λ r. ⌜ r ≡ unitMs (tickUnit (now (words .entry))) ⌝ }
+{
+    if shape::tick_unit(words) == 0 { 1 } else { 10 }
 }
 
 // "Idle when the count is 0, else the mean in ms as an f64, sum and count each converted without loss and divided once."
@@ -246,7 +182,7 @@ fn place_of(edits: &[u16], i: usize) -> usize
     requires { ⌜ 3 * i + 3 ≤ length (now edits) ⌝ }
     ensures { λ r. ⌜ r ≡ placeAt (now (edits .entry)) i ⌝ }
 {
-    wide(edits[3 * i + 1])
+    base::wide(edits[3 * i + 1])
 }
 
 // The kind of record i.
@@ -255,12 +191,6 @@ fn kind_of(edits: &[u16], i: usize) -> u16
     ensures { λ r. ⌜ r ≡ kindAt (now (edits .entry)) i ⌝ }
 {
     edits[3 * i]
-}
-
-fn wide(x: u16) -> usize
-    ensures { λ r. ⌜ r ≡ x ⌝ }
-{
-    x as usize
 }
 
 // ---- The cycles
@@ -278,8 +208,9 @@ impl Watch {
         if here.deleted {
             return watch;
         }
-        if token == marks.closing {
-            watch = watch.closed(marks.unit, tick);
+        // One test, so that the compiler makes no branch of it: where a log closes its cycles cannot be foreseen.
+        if watch.begun && token == marks.closing {
+            watch = watch.closed(tick);
         }
         if token == marks.opening {
             watch = watch.opened(tick);
@@ -295,16 +226,15 @@ impl Watch {
         self
     }
 
-    // A closing mark: the open cycle is clean, and counts.
-    fn closed(mut self, unit: u16, tick: u32) -> Watch
+    // A closing mark: the open cycle, which is clean, counts.
+    fn closed(mut self, tick: u32) -> Watch
         requires { ⌜ Small self ⌝ }
-        ensures { λ r. ⌜ r ≡ closedBy unit tick self ⌝ }
+        requires { ⌜ (self .begun) ≡ true ⌝ }
+        ensures { λ r. ⌜ r ≡ closedBy tick self ⌝ }
     {
-        if self.begun {
-            self.begun = false;
-            self.count += 1;
-            self.sum += time_ms(self.since, tick, unit);
-        }
+        self.begun = false;
+        self.count += 1;
+        self.sum += time(self.since, tick) as u64;
         self
     }
 
@@ -318,11 +248,9 @@ impl Watch {
     }
 }
 
-// "Tick b minus tick a modulo 2^32, times ten for unit 1."
-fn time_ms(opened: u32, closed: u32, unit: u16) -> u64
-    ensures { λ r. ⌜ r ≡ wrapped opened closed * unitMs unit ⌝ }
-    ensures { λ r. ⌜ r ≤ 42949672950 ⌝ }
+// The time of a cycle in ticks: "tick b minus tick a modulo 2^32".
+fn time(opened: u32, closed: u32) -> u32
+    ensures { λ r. ⌜ r ≡ wrapped opened closed ⌝ }
 {
-    let time = std::num::wrapping_sub_u32(closed, opened) as u64;
-    if unit == 0 { time } else { time * 10 }
+    std::num::wrapping_sub_u32(closed, opened)
 }

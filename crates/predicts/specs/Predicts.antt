@@ -1,14 +1,14 @@
 -- The predict set of a rule as a mask: a walk over its right side with FOLLOW of its left side behind it.
-use Prim.Native.Nat.{ℕ, _+_, _<_}
-use mathlib.Core.Path.{_≡_, refl, sym, subst}
+use Prim.Native.Nat.{ℕ, _<_}
+use mathlib.Core.Path.{_≡_, sym, subst}
 use mathlib.Core.Bool.{true}
-use mathlib.Core.List.{List, [], _∷_}
-use mathlib.Core.Logic.{_⊎_, _↔_, inl, inr, ⊎-elim}
+use mathlib.Core.List.{List}
+use mathlib.Core.Logic.{_⊎_, _↔_, inl, inr}
 use lib.ListN.{length, getD}
-use Rattle.grammar.specs.Words.{START, END, Terminal, nonterminalCount, ruleCount, leftSide, rightSide, Shaped}
+use Rattle.grammar.specs.Words.{Terminal, ruleCount, leftSide, rightSide}
 use Rattle.grammar.specs.Derivation.{CanBeEmpty, First, Follow, Predict}
-use Rattle.grammar.specs.Grammar.{RuleOf}
-use Rattle.grammar.specs.model.Wording.{right-symbols}
+use Rattle.grammar.specs.Grammar.{RuleOf, startOverEnd}
+use Rattle.grammar.specs.theory.RightSides.{right-symbols}
 use Rattle.shape.specs.Accessors.{LeftOf}
 use Rattle.sets.specs.Bits.{member}
 use Rattle.firsts.specs.Opens.{FirstWith, Opens}
@@ -18,7 +18,7 @@ use Rattle.follows.specs.Follows.{FollowsOf}
 
 -- Token t is in the predict set of rule p.
 abbrev pub PredictRule : List ℕ → ℕ → ℕ → Type 0
-PredictRule ws p t = Predict (RuleOf ws) (START ∷ END ∷ []) (leftSide ws p) (rightSide ws p) t
+PredictRule ws p t = Predict (RuleOf ws) startOverEnd (leftSide ws p) (rightSide ws p) t
 
 -- The bits of `mask` are the predict set of rule p.
 pub record PredictMask (ws : List ℕ) (p mask : ℕ) : Type 0 where
@@ -50,7 +50,7 @@ predict-found {ws} {null = null} {firsts = firsts} {follows = follows} n {p} {k}
     to t l (inl f) = Predict.by-first f
     to t l (inr f) =
         Predict.by-follow (f .0)
-        (subst (λ A. Follow (RuleOf ws) (START ∷ END ∷ []) A t) (sym (left .names))
+        (subst (λ A. Follow (RuleOf ws) startOverEnd A t) (sym (left .names))
         (n .follows-exact .follow k t (left .below) l .0 (f .1)))
 
     from : (t : ℕ) → Terminal t → PredictRule ws p t
@@ -59,5 +59,5 @@ predict-found {ws} {null = null} {firsts = firsts} {follows = follows} n {p} {k}
     from t l (Predict.by-follow e f) =
         inr (
           e,
-          n .follows-exact .follow k t (left .below) l .1 (subst (λ A. Follow (RuleOf ws) (START ∷ END ∷ []) A t) (left .names) f),
+          n .follows-exact .follow k t (left .below) l .1 (subst (λ A. Follow (RuleOf ws) startOverEnd A t) (left .names) f),
         )

@@ -1,23 +1,22 @@
 -- The predict test: the union of the predict sets of each nonterminal's rules so far.
 use Prim.Native.Nat.{ℕ, _+_, _≤_, _<_}
 use mathlib.Core.Path.{_≡_, refl, sym, ap, _∙_, subst}
-use mathlib.Core.Bool.{Bool, true, false}
-use mathlib.Core.List.{List, [], _∷_}
+use mathlib.Core.Bool.{Bool, true}
+use mathlib.Core.List.{List}
 use mathlib.Core.Logic.{_⊎_, inl, inr, ⊎-elim}
 use native.Mathlib.Omega.{arith}
 use lib.ListN.{getD, replicate}
-use lib.Dec.{eqb}
-use borrow.Author.Tests.{eqb-true, eqb-false}
-use Rattle.grammar.specs.Words.{START, END, Terminal, ruleCount, leftSide, rightSide}
-use Rattle.grammar.specs.Derivation.{First, Follow, Predict, NoneShared}
-use Rattle.grammar.specs.Grammar.{RuleOf}
+use Rattle.base.specs.Choices.{below-or-at}
+use Rattle.grammar.specs.Words.{Terminal, ruleCount, leftSide, rightSide}
+use Rattle.grammar.specs.Derivation.{Predict, NoneShared}
+use Rattle.grammar.specs.Grammar.{RuleOf, startOverEnd}
+use Rattle.grammar.specs.theory.RightSides.{rule-at}
 use Rattle.shape.specs.Accessors.{LeftOf}
 use Rattle.sets.specs.Bits.{member}
 use Rattle.sets.specs.Operations.{Shared}
 use Rattle.sets.specs.Laws.{empty-none}
 use Rattle.growth.specs.Sums.{all-zero}
-use Rattle.growth.specs.Grown.{Added}
-use Rattle.firsts.specs.Firsts.{rule-at}
+use Rattle.growth.specs.Added.{Added}
 use Rattle.predicts.specs.Predicts.{PredictRule, PredictMask}
 
 -- A rule before rule p of nonterminal k that predicts t.
@@ -48,13 +47,6 @@ predict-token : {ws : List ℕ} (p t : ℕ) → PredictRule ws p t → Terminal 
 predict-token p t (Predict.by-first f) = f .token
 predict-token p t (Predict.by-follow e f) = f .token
 
-before-or-at : (q p : ℕ) → q < p + 1 → (q < p) ⊎ (q ≡ p)
-before-or-at q p h = at (eqb q p) refl
-  where
-    at : (b : Bool) → eqb q p ≡ b → (q < p) ⊎ (q ≡ p)
-    at true e = inr (eqb-true q p e)
-    at false e = inl (let n = eqb-false q p e in omega arith)
-
 module _
     {ws : List ℕ}
     {p k mask : ℕ}
@@ -84,12 +76,12 @@ module _
 
       held : (q j t : ℕ) → q < p + 1 → leftSide ws q ≡ 64 + j → PredictRule ws q t → member (getD new j 0) t ≡ true
       held q j t b e d =
-          ⊎-elim (λ i. a .grown .keeps j t (s .held q j t i e d))
+          ⊎-elim (λ i. a .keeps j t (s .held q j t i e d))
           (λ i.
           let same : k ≡ j = omega (arith, left .names, ap (leftSide ws) i) in
           subst (λ n. member (getD new n 0) t ≡ true) same
           (a .holds t (m .exact t (predict-token q t d) .1 (subst (λ n. PredictRule ws n t) i d))))
-          (before-or-at q p b)
+          (below-or-at q p b)
 
       clash : (q t : ℕ) → q < p → leftSide ws q ≡ leftSide ws p → PredictRule ws q t → PredictRule ws p t → ⊥
       clash q t b e d g =
@@ -102,7 +94,7 @@ module _
           })
 
       apart : (q r t : ℕ) → q < p + 1 → r < p + 1 → leftSide ws q ≡ leftSide ws r → PredictRule ws q t → PredictRule ws r t → q ≡ r
-      apart q r t b c e d g = both (before-or-at q p b) (before-or-at r p c)
+      apart q r t b c e d g = both (below-or-at q p b) (below-or-at r p c)
         where
           both : (q < p) ⊎ (q ≡ p) → (r < p) ⊎ (r ≡ p) → q ≡ r
           both (inl i) (inl j) = s .apart q r t i j e d g
@@ -111,25 +103,25 @@ module _
           both (inr i) (inr j) = i ∙ sym j
 
   -- A rule that shares a token with one before it: refusal 9.
-  pub seen-fails : Shared (getD old k 0) mask → NoneShared (RuleOf ws) (START ∷ END ∷ []) → ⊥
+  pub seen-fails : Shared (getD old k 0) mask → NoneShared (RuleOf ws) startOverEnd → ⊥
   seen-fails c n =
       let t = c .number in
       let o = s .said k t (c .below) (c .left) in
       let first = rule-at ws p h in
       let second : RuleOf ws (o .rule) (leftSide ws p) (rightSide ws (o .rule)) =
       record { counted = omega (arith, o .before); left = left .names ∙ sym (o .left); right = refl } in
-      let other : Predict (RuleOf ws) (START ∷ END ∷ []) (leftSide ws p) (rightSide ws (o .rule)) t =
-      subst (λ A. Predict (RuleOf ws) (START ∷ END ∷ []) A (rightSide ws (o .rule)) t) (o .left ∙ sym (left .names)) (o .predicts) in
+      let other : Predict (RuleOf ws) startOverEnd (leftSide ws p) (rightSide ws (o .rule)) t =
+      subst (λ A. Predict (RuleOf ws) startOverEnd A (rightSide ws (o .rule)) t) (o .left ∙ sym (left .names)) (o .predicts) in
       let same : p ≡ o .rule =
       n p (o .rule) (leftSide ws p) t (rightSide ws p) (rightSide ws (o .rule)) first second (m .exact t (c .below) .0 (c .right)) other in
       omega (arith, o .before)
 
 -- All rules are seen.
-pub seen-ends : {ws : List ℕ} {p : ℕ} {seen : List ℕ} → Seen ws p seen → ruleCount ws ≤ p → NoneShared (RuleOf ws) (START ∷ END ∷ [])
+pub seen-ends : {ws : List ℕ} {p : ℕ} {seen : List ℕ} → Seen ws p seen → ruleCount ws ≤ p → NoneShared (RuleOf ws) startOverEnd
 seen-ends {ws} {p} s e q r A t β γ a b d g =
     s .apart q r t (omega (arith, a .counted)) (omega (arith, b .counted)) (sym (a .left) ∙ b .left) (at q β a d) (at r γ b g)
   where
-    at : (q : ℕ) (β : List ℕ) → RuleOf ws q A β → Predict (RuleOf ws) (START ∷ END ∷ []) A β t → PredictRule ws q t
+    at : (q : ℕ) (β : List ℕ) → RuleOf ws q A β → Predict (RuleOf ws) startOverEnd A β t → PredictRule ws q t
     at q β a d =
-        subst (λ B. Predict (RuleOf ws) (START ∷ END ∷ []) B (rightSide ws q) t) (a .left)
-        (subst (λ δ. Predict (RuleOf ws) (START ∷ END ∷ []) A δ t) (a .right) d)
+        subst (λ B. Predict (RuleOf ws) startOverEnd B (rightSide ws q) t) (a .left)
+        (subst (λ δ. Predict (RuleOf ws) startOverEnd A δ t) (a .right) d)

@@ -1,12 +1,11 @@
 // The predict test, refusal 9: no two rules of one nonterminal share a predict token.
 ghost use mathlib.Core.Path.{_≡_};
-ghost use mathlib.Core.List.{[], _∷_};
 ghost use Prim.Native.Nat.{_<_};
 ghost use lib.ListN.{length};
-ghost use Rattle.grammar.specs.Words.{END, START, ruleCount};
+ghost use Rattle.grammar.specs.Words.{ruleCount};
 ghost use Rattle.grammar.specs.Derivation.{NoneShared};
-ghost use Rattle.grammar.specs.Grammar.{RuleOf};
-ghost use Rattle.sets.specs.Telling.{Tells};
+ghost use Rattle.grammar.specs.Grammar.{RuleOf, startOverEnd};
+ghost use Rattle.base.specs.Telling.{Tells};
 ghost use Rattle.predicts.specs.Predicts.{Known, PredictMask};
 
 // No two rules of one nonterminal share a predict token. `seen` is room for the union of each nonterminal's rules so far.
@@ -20,9 +19,9 @@ pub fn none_shared(
 ) -> bool
     requires { ⌜ Known (now words) (now places) null (now firsts) (now follows) ⌝ }
     requires { ⌜ length (now seen) ≡ 64 ⌝ }
-    ensures { λ r. ⌜ Tells (NoneShared (RuleOf (now (words .entry))) (START ∷ END ∷ [])) r ⌝ }
+    ensures { λ r. ⌜ Tells (NoneShared (RuleOf (now (words .entry))) startOverEnd) r ⌝ }
 {
-    growth::clear(seen);
+    base::clear_numbers(seen);
     let count = shape::rule_count(words);
     let mut p = 0;
     while p < count {

@@ -3,24 +3,20 @@
 --     with-same, with-keeps, with-cases         what is in `with s i`
 --     union-left, union-right, union-cases      what is in `union a b`
 --     with-grows, union-grows                   neither makes the number smaller
---     with-bound, union-bound                   both stay below 2 ^ k
 --     with-unchanged, union-unchanged           where they change nothing, what was added was there
---     same-members, same-sets                   two sets with equal members below k are equal
---     within-union                              a part of a set adds nothing to it
 --     some-member                               a set that is not 0 has a member
-use Prim.Native.Nat.{ℕ, zero, suc, _+_, _/_, _%_, _^_, _≤_, _<_, max, min}
-use mathlib.Core.Bool.{Bool, true, false}
+use Prim.Native.Nat.{ℕ, zero, suc, _/_, _%_, _^_, _≤_, _<_, max, min}
+use mathlib.Core.Bool.{true}
 use mathlib.Core.Path.{_≡_, refl, sym, ap, _∙_, subst}
-use mathlib.Core.Logic.{_⊎_, inl, inr, ⊎-elim}
+use mathlib.Core.Logic.{_⊎_, inl, inr}
 use native.Mathlib.Omega.{arith}
 use native.Mathlib.Nat.{pow-suc, div-one, zero-div, div-add-mod', mod-lt, zero-lt-suc, div-div-eq-div-mul, mul-comm}
 use lib.Dec.{eqb}
-use lib.Arith.{digits-mod, lt-one}
-use lib.Pow.{pow-lt}
-use lib.Bits.{bitOr, bitAnd, or-shr, or-step, or-lt, or-add-and, and-le-r, and-shr, and-step}
+use lib.Arith.{digits-mod}
+use lib.Bits.{bitOr, bitAnd, or-shr, or-step, or-add-and, and-le-r, and-shr, and-step}
 use borrow.Author.Tests.{eqb-true, eq-eqb}
 use Rattle.sets.specs.Bits.{member}
-use Rattle.sets.specs.Operations.{with, union, Shared, Within}
+use Rattle.sets.specs.Operations.{with, union, Shared}
 
 -- ---- Bits
 
@@ -31,11 +27,11 @@ bit s i = s / 2 ^ i % 2
 bit-small : (s i : ℕ) → bit s i < 2
 bit-small s i = mod-lt (s / 2 ^ i) (zero-lt-suc 1)
 
-pub member-bit : (s i : ℕ) → member s i ≡ true → bit s i ≡ 1
+member-bit : (s i : ℕ) → member s i ≡ true → bit s i ≡ 1
 unfolding member
 member-bit s i m = eqb-true (bit s i) 1 m
 
-pub bit-member : (s i : ℕ) → bit s i ≡ 1 → member s i ≡ true
+bit-member : (s i : ℕ) → bit s i ≡ 1 → member s i ≡ true
 unfolding member
 bit-member s i e = eq-eqb (bit s i) 1 e
 
@@ -138,21 +134,11 @@ pub with-grows : (s i : ℕ) → s ≤ with s i
 unfolding with union
 with-grows s i = union-grows s (2 ^ i)
 
-pub union-bound : (k a b : ℕ) → a < 2 ^ k → b < 2 ^ k → union a b < 2 ^ k
-unfolding union
-union-bound k a b ha hb = or-lt k a b ha hb
-
-pub with-bound : (k s i : ℕ) → s < 2 ^ k → i < k → with s i < 2 ^ k
-unfolding with
-with-bound k s i hs hi = or-lt k s (2 ^ i) hs (pow-lt hi)
-
 pub union-unchanged : (a b : ℕ) → union a b ≡ a → (i : ℕ) → member b i ≡ true → member a i ≡ true
 union-unchanged a b e i m = subst (λ (s : ℕ). member s i ≡ true) e (union-right a b i m)
 
 pub with-unchanged : (s i : ℕ) → with s i ≡ s → member s i ≡ true
 with-unchanged s i e = subst (λ (n : ℕ). member n i ≡ true) e (with-same s i)
-
--- ---- A set is known by its members
 
 half-below : (k a : ℕ) → a < 2 ^ suc k → a / 2 < 2 ^ k
 half-below k a h = omega (arith, pow-suc 2 k)
@@ -160,42 +146,6 @@ half-below k a h = omega (arith, pow-suc 2 k)
 member-suc : (s i : ℕ) → member s (suc i) ≡ member (s / 2) i
 unfolding member
 member-suc s i = ap (λ (n : ℕ). eqb n 1) (bit-suc s i)
-
-same-bit : (a b i : ℕ) → member a i ≡ member b i → bit a i ≡ 1 → bit b i ≡ 1
-same-bit a b i e one = member-bit b i (sym e ∙ bit-member a i one)
-
-same-low : (a b : ℕ) → member a 0 ≡ member b 0 → (bit a 0 ≡ 1) ⊎ (bit a 0 ≡ 0) → (bit b 0 ≡ 1) ⊎ (bit b 0 ≡ 0)
-    → a % 2 ≡ b % 2
-same-low a b e (inl p) (inl q) = sym (bit-zero a) ∙ p ∙ sym q ∙ bit-zero b
-same-low a b e (inl p) (inr q) = absurd (omega (arith, same-bit a b 0 e p))
-same-low a b e (inr p) (inl q) = absurd (omega (arith, same-bit b a 0 (sym e) q))
-same-low a b e (inr p) (inr q) = sym (bit-zero a) ∙ p ∙ sym q ∙ bit-zero b
-
-both-true : (x y : Bool) → (x ≡ true → y ≡ true) → (y ≡ true → x ≡ true) → x ≡ y
-both-true true y to from = sym (to refl)
-both-true false true to from = from refl
-both-true false false to from = refl
-
-pub same-members : (k a b : ℕ) → a < 2 ^ k → b < 2 ^ k → ((i : ℕ) → i < k → member a i ≡ member b i) → a ≡ b
-same-members zero a b ha hb same = lt-one ha ∙ sym (lt-one hb)
-same-members (suc k) a b ha hb same =
-    let halves : a / 2 ≡ b / 2 =
-    same-members k (a / 2) (b / 2) (half-below k a ha) (half-below k b hb)
-    (λ i h. sym (member-suc a i) ∙ same (suc i) (omega arith) ∙ member-suc b i) in
-    let lows : a % 2 ≡ b % 2 = same-low a b (same 0 (omega arith)) (bit-cases a 0 _ refl) (bit-cases b 0 _ refl) in
-    omega (arith, div-add-mod' a 2, div-add-mod' b 2)
-
--- Two sets with the same members below k are equal.
-pub same-sets : (k a b : ℕ) → a < 2 ^ k → b < 2 ^ k → ((i : ℕ) → i < k → member a i ≡ true → member b i ≡ true)
-    → ((i : ℕ) → i < k → member b i ≡ true → member a i ≡ true) → a ≡ b
-same-sets k a b ha hb to from = same-members k a b ha hb (λ i h. both-true (member a i) (member b i) (to i h) (from i h))
-
--- Where all of a is in b, a adds nothing to b.
-pub within-union : (k a b : ℕ) → a < 2 ^ k → b < 2 ^ k → Within a b → union a b ≡ b
-within-union k a b ha hb inside =
-    same-sets k (union a b) b (union-bound k a b ha hb) hb
-    (λ i h m. ⊎-elim (inside i) (λ held. held) (union-cases a b i m))
-    (λ i h m. union-right a b i m)
 
 -- ---- Common members
 

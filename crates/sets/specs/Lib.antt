@@ -1,4 +1,3 @@
 pub mod Bits
 pub mod Operations
-pub mod Telling
 pub mod Laws

@@ -19,7 +19,3 @@ pub record Shared (a b : ℕ) : Type 0 where
   pub below : number < 64
   pub left : member a number ≡ true
   pub right : member b number ≡ true
-
--- All of a is in b.
-abbrev pub Within : ℕ → ℕ → Type 0
-Within a b = (i : ℕ) → member a i ≡ true → member b i ≡ true

@@ -1,11 +1,11 @@
 // Sets of numbers below 64 as the bits of a u64. What they hold is `member` of specs/Bits.antt; specs/Laws.antt says of
-// `with` and `union` what they hold, that they never make the number smaller, and that a set is known by its members.
+// `with` and `union` what they hold, and that they never make the number smaller.
 // Each of these compiles to an instruction or two.
 ghost use mathlib.Core.Path.{_≡_};
 ghost use Prim.Native.Nat.{_<_};
 ghost use Rattle.sets.specs.Bits.{member};
-ghost use Rattle.sets.specs.Telling.{Tells};
-ghost use Rattle.sets.specs.Operations.{with, union, Shared, Within};
+ghost use Rattle.base.specs.Telling.{Tells};
+ghost use Rattle.sets.specs.Operations.{with, union, Shared};
 
 // Number i is in the set.
 pub fn has(s: u64, i: u16) -> bool
@@ -35,11 +35,4 @@ pub fn shared(a: u64, b: u64) -> bool
     ensures { λ r. ⌜ Tells (Shared a b) r ⌝ }
 {
     (a & b) != 0
-}
-
-// All of a is in b.
-pub fn within(a: u64, b: u64) -> bool
-    ensures { λ r. ⌜ Tells (Within a b) r ⌝ }
-{
-    (a | b) == b
 }

@@ -1,12 +1,10 @@
--- What the parts of the shape say where a test has gone one way: marks, symbols, a terminal's words.
+-- What the parts of the shape say where a test has gone one way: marks, symbols, the header's end.
 use Prim.Native.Nat.{ℕ, suc, _+_, _-_, _*_, _≤_, _<_}
 use mathlib.Core.Path.{_≡_}
-use mathlib.Core.List.{List}
 use native.Mathlib.Omega.{arith}
 use lib.Dec.{leb, ltb}
-use Rattle.sets.specs.Telling.{Tells, tells-le}
-use Rattle.grammar.specs.Words.{insertCost, reliability, Marks, RuleSymbol, TerminalWords}
-use Rattle.shape.specs.Parts.{Between}
+use Rattle.base.specs.Telling.{Tells, tells-le}
+use Rattle.grammar.specs.Words.{Marks, RuleSymbol}
 
 -- Without an opening mark there is no closing mark,
 pub mark-both : {T o c : ℕ} → o ≡ 0 → Marks T o c → c ≡ 0
@@ -46,13 +44,3 @@ symbol-tells T N x h l =
 pub inside-tells : {P : Type 0} (w T size : ℕ) → w ≡ T
     → (6 + 2 * T ≤ size → P) → (P → 6 + 2 * T ≤ size) → Tells P (leb (6 + 2 * w) size)
 inside-tells w T size e to from = tells-le (6 + 2 * w) size (λ h. to (omega arith)) (λ p. omega (arith, from p))
-
-module _ {ws : List ℕ} {t : ℕ} where
-  pub terminal-words : Between 1 1000 (insertCost ws t) → Between 0 60000 (reliability ws t) → TerminalWords ws t
-  terminal-words c r = record { cost-low = c .from; cost-high = c .to; reliability-high = r .to }
-
-  pub terminal-cost : TerminalWords ws t → Between 1 1000 (insertCost ws t)
-  terminal-cost w = record { from = w .cost-low; to = w .cost-high }
-
-  pub terminal-reliability : TerminalWords ws t → Between 0 60000 (reliability ws t)
-  terminal-reliability w = record { from = omega arith; to = w .reliability-high }

@@ -2,7 +2,7 @@
 --     begun, more, over    where the pass begins, at a rule that is right, and behind the last rule
 --     refused              a rule that is not right
 use Prim.Native.Nat.{ℕ, _+_, _*_, _≤_, _<_}
-use mathlib.Core.Bool.{Bool, true, false, false≢true}
+use mathlib.Core.Bool.{Bool, false, false≢true}
 use mathlib.Core.Path.{_≡_, sym, ap, _∙_, subst}
 use mathlib.Core.List.{List}
 use native.Mathlib.Omega.{arith}
@@ -12,9 +12,9 @@ use borrow.Author.Tests.{eqb-true, eqb-false}
 use lib.Dec.{eqb}
 use lib.ListN.{length, getD, set, length-set}
 use lib.Seq.{getD-set-same, getD-set-other}
-use Rattle.grammar.specs.Words.{word, terminalCount, nonterminalCount, ruleCount, rulePlace, RuleWords, Shaped}
-use Rattle.sets.specs.Telling.{Tells}
-use Rattle.shape.specs.Parts.{Decides, HeaderRight, RuleRight, RulesRight, SymbolsRight, rule-of, rule-words}
+use Rattle.grammar.specs.Words.{word, headerSize, terminalCount, ruleCount, rightSize, rulePlace, Shaped}
+use Rattle.base.specs.Telling.{Tells}
+use Rattle.shape.specs.Parts.{Decides, HeaderRight, RuleRight, RuleThere, RulesRight, SymbolsRight, rule-of}
 use Rattle.shape.specs.Inside.{place-first, place-next, places-small}
 
 -- A rule, by its symbols: the last test of `rule_right`.
@@ -37,15 +37,16 @@ pub shut-out : {P Q : Type 0} → (Q → ⊥) → Decides P Q false
 shut-out wrong = record { yes = λ e. absurd (false≢true e); no = λ _ q. wrong q }
 
 pub record Passed (ws places : List ℕ) (at p : ℕ) : Type 0 where
-  pub counted : p ≤ ruleCount ws
+  pub counted : p ≤ word ws 2
   pub stands : at ≡ rulePlace ws p
   pub inside : at ≤ length ws
   pub room : 256 ≤ length places
-  pub rules : (q : ℕ) → q < p → RuleWords ws q
+  pub rules : (q : ℕ) → q < p → RuleThere ws (rulePlace ws q)
   pub exact : (q : ℕ) → q < p → getD places q 0 ≡ rulePlace ws q
 
 module _ (ws : List ℕ) (header : HeaderRight ws) where
-  pub begun : (places : List ℕ) (w : ℕ) → w ≡ terminalCount ws → 256 ≤ length places → Passed ws places (6 + 2 * w) 0
+  pub begun : (places : List ℕ) (w : ℕ) → w ≡ word ws 0 → 256 ≤ length places → Passed ws places (6 + 2 * w) 0
+  unfolding headerSize terminalCount
   begun places w e room =
       record {
         counted = omega arith;
@@ -58,17 +59,15 @@ module _ (ws : List ℕ) (header : HeaderRight ws) where
 
   module _ (places : List ℕ) (at p : ℕ) (passed : Passed ws places at p) where
     -- The place fits a word.
-    pub fits-word : p < ruleCount ws → at < 65536
+    pub fits-word : p < word ws 2 → at < 65536
+    unfolding terminalCount rightSize
     fits-word h =
         omega
         (arith, places-small ws (header .terminals .to) p (λ q l. passed .rules q l .size), header .rules .to, passed .stands)
 
-    rule-here : RuleRight ws at (terminalCount ws) (nonterminalCount ws) → RuleWords ws p
-    rule-here r =
-        rule-words ws p (subst (λ k. RuleRight ws k (terminalCount ws) (nonterminalCount ws)) (passed .stands) r)
-
-    pub more : (w : ℕ) → w ≡ word ws (at + 1) → p < ruleCount ws → RuleRight ws at (terminalCount ws) (nonterminalCount ws)
+    pub more : (w : ℕ) → w ≡ word ws (at + 1) → p < word ws 2 → RuleThere ws at
         → Passed ws (set places p at) (at + 2 + w) (p + 1)
+    unfolding rightSize
     more w e h r =
         let size : word ws (at + 1) ≡ word ws (rulePlace ws p + 1) = ap (λ k. word ws (k + 1)) (passed .stands) in
         record {
@@ -76,22 +75,19 @@ module _ (ws : List ℕ) (header : HeaderRight ws) where
           stands = omega (arith, place-next ws p, passed .stands) ∙ ap (rulePlace ws) (sym (add-one p));
           inside = omega (arith, r .inside);
           room = omega (arith, length-set places p at, passed .room);
-          rules = below-more (RuleWords ws) p (passed .rules) (rule-here r);
+          rules = below-more (λ q. RuleThere ws (rulePlace ws q)) p (passed .rules) (subst (RuleThere ws) (passed .stands) r);
           exact = below-more (λ q. getD (set places p at) q 0 ≡ rulePlace ws q) p
               (λ q l. getD-set-other places p q at 0 (λ same. omega arith) ∙ passed .exact q l)
               (getD-set-same places p at 0 (omega (arith, passed .room, header .rules .to)) ∙ passed .stands);
         }
 
-    pub refused : {P : Type 0} → p < ruleCount ws → (RuleRight ws at (terminalCount ws) (nonterminalCount ws) → ⊥)
-        → Decides P (Shaped ws) false
-    refused h wrong =
-        shut-out
-        (λ s.
-        wrong (subst (λ k. RuleRight ws k (terminalCount ws) (nonterminalCount ws)) (sym (passed .stands)) (rule-of ws s p h)))
+    pub refused : {P : Type 0} → p < word ws 2 → (RuleThere ws at → ⊥) → Decides P (Shaped ws) false
+    refused h wrong = shut-out (λ s. wrong (subst (RuleThere ws) (sym (passed .stands)) (rule-of ws s p h)))
 
-    pub over : ruleCount ws ≤ p → Decides (RulesRight ws places) (Shaped ws) (eqb at (length ws))
+    pub over : word ws 2 ≤ p → Decides (RulesRight ws places) (Shaped ws) (eqb at (length ws))
+    unfolding ruleCount
     over h =
-        let all : p ≡ ruleCount ws = omega (arith, passed .counted) in
+        let all : p ≡ word ws 2 = omega (arith, passed .counted) in
         record {
           yes = λ e.
               record {

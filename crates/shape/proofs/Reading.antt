@@ -1,27 +1,74 @@
--- What the words at a rule's place are, where the words have the shape.
-use Prim.Native.Nat.{ℕ, _+_, _<_}
-use mathlib.Core.Path.{_≡_, sym, ap, _∙_, subst}
+-- What stands where, if the words have the shape: the header, the words of a terminal, the words of rule p.
+use Prim.Native.Nat.{ℕ, zero, suc, _+_, _*_, _<_}
+use mathlib.Core.Path.{_≡_, refl, sym, ap, _∙_, subst}
 use mathlib.Core.List.{List}
 use native.Mathlib.Omega.{arith}
-use Rattle.grammar.specs.Words.{word, terminalCount, nonterminalCount, ruleCount, rulePlace, rightSize, RuleSymbol, Shaped}
-use Rattle.shape.specs.Accessors.{StartOf, LeftOf, SizeOf, SymbolAt}
-use Rattle.shape.specs.Inside.{symbol-small}
+use lib.ListN.{length, getD}
+use Rattle.grammar.specs.Words.{
+  word,
+  headerSize,
+  terminalCount,
+  nonterminalCount,
+  ruleCount,
+  opening,
+  closing,
+  tickUnit,
+  insertCost,
+  reliability,
+  rulePlace,
+  leftSide,
+  rightSide,
+  rightSize,
+  RuleSymbol,
+  Shaped,
+}
+use Rattle.grammar.specs.theory.RightSides.{right-at}
+use Rattle.shape.specs.Accessors.{LeftOf, SizeOf, SymbolAt, headerWords, terminalWords}
+use Rattle.shape.specs.Inside.{header-inside, left-ranged, right-length, symbol-small}
 
-module _ (ws : List ℕ) (s : Shaped ws) (p : ℕ) (h : p < ruleCount ws) (at : ℕ) (start : StartOf ws p at) where
-  pub left-at : LeftOf ws p (word ws at)
-  left-at =
-      let here : word ws at ≡ word ws (rulePlace ws p) = ap (word ws) (start .is) in
-      let below : word ws at < nonterminalCount ws = omega (arith, s .rules p h .left) in
-      record { names = ap (λ k. 64 + k) (sym here); below = below; small = omega (arith, s .nonterminals-high) }
+-- The words of the header stand at the front,
+pub header-at : (ws : List ℕ) (i : ℕ) → i < 6 → word ws i ≡ getD (headerWords ws) i 0
+unfolding terminalCount nonterminalCount ruleCount opening closing tickUnit
+header-at ws zero l = refl
+header-at ws (suc zero) l = refl
+header-at ws (suc (suc zero)) l = refl
+header-at ws (suc (suc (suc zero))) l = refl
+header-at ws (suc (suc (suc (suc zero)))) l = refl
+header-at ws (suc (suc (suc (suc (suc zero))))) l = refl
+header-at ws (suc (suc (suc (suc (suc (suc i)))))) l = absurd (omega arith)
 
-  pub size-at : (n : ℕ) → n ≡ word ws (at + 1) → SizeOf ws p n
-  size-at n read =
-      let is : n ≡ rightSize ws p = read ∙ ap (λ k. word ws (k + 1)) (start .is) in
-      record { is = is; small = omega (arith, s .rules p h .size) }
+-- those of the terminals behind them.
+pub terminal-at : (ws : List ℕ) (t i : ℕ) → i < 2 → word ws (6 + 2 * t + i) ≡ getD (terminalWords ws t) i 0
+unfolding headerSize insertCost reliability
+terminal-at ws t zero l = let place : 6 + 2 * t + 0 ≡ 6 + 2 * t = omega arith in ap (word ws) place
+terminal-at ws t (suc zero) l = refl
+terminal-at ws t (suc (suc i)) l = absurd (omega arith)
 
-  pub symbol-there : (i : ℕ) → i < rightSize ws p → SymbolAt ws p i (word ws (at + 2 + i))
-  symbol-there i l =
-      let here : word ws (at + 2 + i) ≡ word ws (rulePlace ws p + 2 + i) = ap (λ k. word ws (k + 2 + i)) (start .is) in
-      let ranged : RuleSymbol (terminalCount ws) (nonterminalCount ws) (word ws (at + 2 + i)) =
-      subst (RuleSymbol (terminalCount ws) (nonterminalCount ws)) (sym here) (s .rules p h .symbols i l) in
-      record { is = here; ranged = ranged; small = symbol-small (s .terminals-high) (s .nonterminals-high) ranged }
+pub terminal-inside : (ws : List ℕ) → Shaped ws → (t i : ℕ) → t < terminalCount ws → i < 2 → 6 + 2 * t + i < length ws
+unfolding headerSize
+terminal-inside ws s t i h l = omega (arith, header-inside ws s)
+
+module _ (ws : List ℕ) (s : Shaped ws) (p : ℕ) (h : p < ruleCount ws) (w : ℕ) where
+  pub left-at : w ≡ word ws (rulePlace ws p + 0) → LeftOf ws p w
+  unfolding leftSide
+  left-at read =
+      let place : rulePlace ws p + 0 ≡ rulePlace ws p = omega arith in
+      let names : leftSide ws p ≡ 64 + w = ap (λ k. 64 + k) (sym (read ∙ ap (word ws) place)) in
+      let below : w < nonterminalCount ws = omega (arith, left-ranged ws s p h .1) in
+      record { names = names; below = below; small = omega (arith, s .nonterminals-high) }
+
+  pub size-at : w ≡ word ws (rulePlace ws p + 1) → SizeOf ws p w
+  unfolding rightSize
+  size-at read = record { is = read ∙ sym (right-length ws s p h); small = omega (arith, s .rules p h .size) }
+
+  pub symbol-there : (i : ℕ) → i < length (rightSide ws p) → w ≡ word ws (rulePlace ws p + (2 + i)) → SymbolAt ws p i w
+  symbol-there i l read =
+      let inside : i < rightSize ws p = omega (arith, right-length ws s p h) in
+      let place : rulePlace ws p + (2 + i) ≡ rulePlace ws p + 2 + i = omega arith in
+      let here : w ≡ word ws (rulePlace ws p + 2 + i) = read ∙ ap (word ws) place in
+      let ranged = subst (RuleSymbol (terminalCount ws) (nonterminalCount ws)) (sym here) (s .rules p h .symbols i inside) in
+      record {
+        is = here ∙ sym (right-at ws p i inside);
+        ranged = ranged;
+        small = symbol-small (s .terminals-high) (s .nonterminals-high) ranged;
+      }

@@ -1,15 +1,32 @@
--- What the accessors of a grammar that has the shape give, each with the bounds that a caller needs.
-use Prim.Native.Nat.{ℕ, _+_, _≤_, _<_}
-use mathlib.Core.Path.{_≡_}
-use mathlib.Core.List.{List}
-use lib.ListN.{length}
-use Rattle.grammar.specs.Words.{word, terminalCount, nonterminalCount, rulePlace, leftSide, rightSize, RuleSymbol}
+-- What the accessors of a grammar that has the shape give, each with the bounds that a caller needs, and a right side from one
+-- of its symbols on.
+use Prim.Native.Nat.{ℕ, suc, _+_, _-_, _≤_, _<_}
+use mathlib.Core.Path.{_≡_, sym, ap, _∙_}
+use mathlib.Core.List.{List, [], _∷_}
+use native.Mathlib.Omega.{arith}
+use lib.ListN.{length, getD, drop, drop-of-length-le}
+use lib.Seq.{drop-cons}
+use Rattle.grammar.specs.Words.{
+  terminalCount,
+  nonterminalCount,
+  ruleCount,
+  opening,
+  closing,
+  tickUnit,
+  insertCost,
+  reliability,
+  leftSide,
+  rightSide,
+  RuleSymbol,
+}
 
--- Rule p stands at the place `at`, with all its words inside the list.
-pub record StartOf (ws : List ℕ) (p at : ℕ) : Type 0 where
-  pub is : at ≡ rulePlace ws p
-  pub inside : at + 2 + rightSize ws p ≤ length ws
-  pub small : at < 65536
+-- The header, word by word.
+abbrev pub headerWords : List ℕ → List ℕ
+headerWords ws = terminalCount ws ∷ nonterminalCount ws ∷ ruleCount ws ∷ opening ws ∷ closing ws ∷ tickUnit ws ∷ []
+
+-- The two words of terminal t.
+abbrev pub terminalWords : List ℕ → ℕ → List ℕ
+terminalWords ws t = insertCost ws t ∷ reliability ws t ∷ []
 
 -- The left side of rule p is nonterminal k, which is symbol 64 + k.
 pub record LeftOf (ws : List ℕ) (p k : ℕ) : Type 0 where
@@ -19,11 +36,23 @@ pub record LeftOf (ws : List ℕ) (p k : ℕ) : Type 0 where
 
 -- The right side of rule p has n symbols.
 pub record SizeOf (ws : List ℕ) (p n : ℕ) : Type 0 where
-  pub is : n ≡ rightSize ws p
+  pub is : n ≡ length (rightSide ws p)
   pub small : n ≤ 8
 
 -- Symbol i of the right side of rule p is X.
 pub record SymbolAt (ws : List ℕ) (p i X : ℕ) : Type 0 where
-  pub is : X ≡ word ws (rulePlace ws p + 2 + i)
+  pub is : X ≡ getD (rightSide ws p) i 0
   pub ranged : RuleSymbol (terminalCount ws) (nonterminalCount ws) X
   pub small : X < 128
+
+-- A right side from its end on has nothing,
+pub right-none : {ws : List ℕ} {p n : ℕ} → SizeOf ws p n → drop n (rightSide ws p) ≡ []
+right-none {ws} {p} {n} size = drop-of-length-le (rightSide ws p) {i = n} (omega (arith, size .is))
+
+-- and from symbol i - 1 on it has that one besides.
+pub right-from : {ws : List ℕ} {p i X : ℕ} → 0 < i → i ≤ length (rightSide ws p) → SymbolAt ws p (i - 1) X
+    → drop (i - 1) (rightSide ws p) ≡ X ∷ drop i (rightSide ws p)
+right-from {ws} {p} {i} {X} some inside at =
+    let next : suc (i - 1) ≡ i = omega arith in
+    drop-cons (rightSide ws p) (i - 1) 0 (omega arith)
+    ∙ (ap (λ Y. Y ∷ drop (suc (i - 1)) (rightSide ws p)) (sym (at .is)) ∙ ap (λ n. X ∷ drop n (rightSide ws p)) next)

@@ -1,6 +1,5 @@
--- The parts of the shape, as the test meets them, and how they make the whole.
+-- The parts of the shape, word by word as the test reads them, and how they make the whole.
 --     header-of, terminals-of, rule-of    words that have the shape have each part
---     rule-words                          the words of rule p, by the words at its place
 --     ready                               all parts together
 use Prim.Native.Nat.{ℕ, _+_, _*_, _≤_, _<_}
 use mathlib.Core.Bool.{Bool, true, false}
@@ -19,13 +18,11 @@ use Rattle.grammar.specs.Words.{
   tickUnit,
   insertCost,
   reliability,
+  rightSize,
   rulePlace,
-  END,
   Marks,
   RuleSymbol,
-  RuleWords,
   Shaped,
-  TerminalWords,
 }
 use Rattle.shape.specs.Ready.{Ready}
 use Rattle.shape.specs.Inside.{header-inside, place-inside}
@@ -41,17 +38,22 @@ pub record Between (low high x : ℕ) : Type 0 where
 
 -- The header, END's two words, and that the terminals' words lie inside the list.
 pub record HeaderRight (ws : List ℕ) : Type 0 where
-  pub terminals : Between 1 64 (terminalCount ws)
-  pub nonterminals : Between 1 64 (nonterminalCount ws)
-  pub rules : Between 1 256 (ruleCount ws)
-  pub marks : Marks (terminalCount ws) (opening ws) (closing ws)
-  pub unit : Between 0 1 (tickUnit ws)
-  pub end-cost : insertCost ws END ≡ 0
-  pub end-reliability : reliability ws END ≡ 0
-  pub inside : headerSize ws + 2 * terminalCount ws ≤ length ws
+  pub terminals : Between 1 64 (word ws 0)
+  pub nonterminals : Between 1 64 (word ws 1)
+  pub rules : Between 1 256 (word ws 2)
+  pub marks : Marks (word ws 0) (word ws 3) (word ws 4)
+  pub unit : Between 0 1 (word ws 5)
+  pub end-cost : word ws 6 ≡ 0
+  pub end-reliability : word ws 7 ≡ 0
+  pub inside : 6 + 2 * word ws 0 ≤ length ws
+
+-- The two words of a terminal other than END.
+pub record TerminalRight (ws : List ℕ) (t : ℕ) : Type 0 where
+  pub cost : Between 1 1000 (word ws (6 + 2 * t))
+  pub reliability : Between 0 60000 (word ws (6 + 2 * t + 1))
 
 abbrev pub TerminalsRight : List ℕ → Type 0
-TerminalsRight ws = (t : ℕ) → 1 ≤ t → t < terminalCount ws → TerminalWords ws t
+TerminalsRight ws = (t : ℕ) → 1 ≤ t → t < word ws 0 → TerminalRight ws t
 
 -- The symbols of a right side that begins at a word.
 abbrev pub SymbolsRight : List ℕ → ℕ → ℕ → ℕ → ℕ → Type 0
@@ -64,14 +66,19 @@ pub record RuleRight (ws : List ℕ) (at T N : ℕ) : Type 0 where
   pub symbols : SymbolsRight ws (at + 2) (word ws (at + 1)) T N
   pub inside : at + 2 + word ws (at + 1) ≤ length ws
 
+-- A rule at a place, by T and N of the header.
+abbrev pub RuleThere : List ℕ → ℕ → Type 0
+RuleThere ws at = RuleRight ws at (word ws 0) (word ws 1)
+
 -- All rules, their places, and that the words end with the last.
 pub record RulesRight (ws places : List ℕ) : Type 0 where
-  pub rules : (p : ℕ) → p < ruleCount ws → RuleWords ws p
-  pub whole : rulePlace ws (ruleCount ws) ≡ length ws
-  pub long : ruleCount ws ≤ length places
-  pub exact : (p : ℕ) → p < ruleCount ws → getD places p 0 ≡ rulePlace ws p
+  pub rules : (p : ℕ) → p < word ws 2 → RuleThere ws (rulePlace ws p)
+  pub whole : rulePlace ws (word ws 2) ≡ length ws
+  pub long : word ws 2 ≤ length places
+  pub exact : (p : ℕ) → p < word ws 2 → getD places p 0 ≡ rulePlace ws p
 
 pub header-of : (ws : List ℕ) → Shaped ws → HeaderRight ws
+unfolding headerSize terminalCount nonterminalCount ruleCount opening closing tickUnit insertCost reliability
 header-of ws s =
     record {
       terminals = record { from = s .terminals-low; to = s .terminals-high };
@@ -84,16 +91,23 @@ header-of ws s =
       inside = omega (arith, header-inside ws s);
     }
 
-pub rule-of : (ws : List ℕ) → Shaped ws → (p : ℕ) → p < ruleCount ws
-    → RuleRight ws (rulePlace ws p) (terminalCount ws) (nonterminalCount ws)
+pub terminals-of : (ws : List ℕ) → Shaped ws → TerminalsRight ws
+unfolding headerSize terminalCount insertCost reliability
+terminals-of ws s t some h =
+    let words = s .terminals t some h in
+    record {
+      cost = record { from = words .cost-low; to = words .cost-high };
+      reliability = record { from = omega arith; to = words .reliability-high };
+    }
+
+pub rule-of : (ws : List ℕ) → Shaped ws → (p : ℕ) → p < word ws 2 → RuleThere ws (rulePlace ws p)
+unfolding terminalCount nonterminalCount ruleCount rightSize
 rule-of ws s p h =
     let words = s .rules p h in
     record { left = words .left; size = words .size; symbols = words .symbols; inside = place-inside ws s p h }
 
-pub rule-words : (ws : List ℕ) (p : ℕ) → RuleRight ws (rulePlace ws p) (terminalCount ws) (nonterminalCount ws) → RuleWords ws p
-rule-words ws p r = record { left = r .left; size = r .size; symbols = r .symbols }
-
 pub ready : (ws places : List ℕ) → HeaderRight ws → TerminalsRight ws → RulesRight ws places → Ready ws places
+unfolding headerSize terminalCount nonterminalCount ruleCount opening closing tickUnit insertCost reliability rightSize
 ready ws places h t r =
     record {
       shaped = record {
@@ -107,8 +121,10 @@ ready ws places h t r =
         unit = h .unit .to;
         end-cost = h .end-cost;
         end-reliability = h .end-reliability;
-        terminals = t;
-        rules = r .rules;
+        terminals = λ k some l.
+            let right = t k some l in
+            record { cost-low = right .cost .from; cost-high = right .cost .to; reliability-high = right .reliability .to };
+        rules = λ p l. let right = r .rules p l in record { left = right .left; size = right .size; symbols = right .symbols };
         whole = r .whole;
       };
       long = r .long;

@@ -1,22 +1,27 @@
 // The shape of grammar words, where each rule stands, and what stands there. Refusal 5 is given exactly where the words
 // do not have the shape.
 ghost use mathlib.Core.Path.{_≡_};
-ghost use Prim.Native.Nat.{_+_, _≤_, _<_};
-ghost use lib.ListN.{length};
-ghost use Rattle.sets.specs.Telling.{Tells};
+ghost use Prim.Native.Nat.{_+_, _*_, _≤_, _<_};
+ghost use lib.ListN.{length, getD};
+ghost use Rattle.base.specs.Telling.{Tells};
 ghost use Rattle.grammar.specs.Words.{
   Marks,
   RuleSymbol,
   Shaped,
+  closing,
   insertCost,
   nonterminalCount,
+  opening,
   reliability,
-  rightSize,
+  rightSide,
   ruleCount,
+  rulePlace,
   terminalCount,
+  tickUnit,
+  word,
 };
 ghost use Rattle.shape.specs.Ready.{Ready};
-ghost use Rattle.shape.specs.Accessors.{LeftOf, SizeOf, StartOf, SymbolAt};
+ghost use Rattle.shape.specs.Accessors.{LeftOf, SizeOf, SymbolAt, headerWords, terminalWords};
 ghost use Rattle.shape.specs.Parts.{
   Between,
   Decides,
@@ -75,7 +80,7 @@ fn header_right(words: &[u16]) -> bool
     if words[HEADER + 1] != 0 {
         return false;
     }
-    HEADER + 2 * wide(words[0]) <= words.len()
+    HEADER + 2 * base::wide(words[0]) <= words.len()
 }
 
 // Each mark 1..T-1, or both 0.
@@ -99,7 +104,7 @@ fn terminals_right(words: &[u16]) -> bool
     requires { ⌜ HeaderRight (now words) ⌝ }
     ensures { λ r. ⌜ Tells (TerminalsRight (now (words .entry))) r ⌝ }
 {
-    let count = wide(words[0]);
+    let count = base::wide(words[0]);
     let mut t = 1;
     while t < count {
         if between(words[HEADER + 2 * t], 1, 1000) {} else {
@@ -119,15 +124,15 @@ fn rules_right(words: &[u16], places: &mut [u16]) -> bool
     requires { ⌜ 256 ≤ length (now places) ⌝ }
     ensures { λ r. ⌜ Decides (RulesRight (now (words .entry)) (now (places .exit))) (Shaped (now (words .entry))) r ⌝ }
 {
-    let count = wide(words[2]);
-    let mut at = HEADER + 2 * wide(words[0]);
+    let count = base::wide(words[2]);
+    let mut at = HEADER + 2 * base::wide(words[0]);
     let mut p = 0;
     while p < count {
         if rule_right(words, at, words[0], words[1]) {} else {
             return false;
         }
         places[p] = at as u16;
-        at = at + 2 + wide(words[at + 1]);
+        at = at + 2 + base::wide(words[at + 1]);
         p += 1;
     }
     at == words.len()
@@ -146,7 +151,7 @@ fn rule_right(words: &[u16], at: usize, t: u16, n: u16) -> bool
     if words[at] < n {} else {
         return false;
     }
-    let size = wide(words[at + 1]);
+    let size = base::wide(words[at + 1]);
     if 8 < size {
         return false;
     }
@@ -204,7 +209,7 @@ pub fn terminal_count(words: &[u16]) -> usize
     requires { ⌜ Shaped (now words) ⌝ }
     ensures { λ r. ⌜ r ≡ terminalCount (now (words .entry)) ⌝ }
 {
-    wide(words[0])
+    base::wide(header(words, 0))
 }
 
 // N, nonterminals.
@@ -212,7 +217,7 @@ pub fn nonterminal_count(words: &[u16]) -> usize
     requires { ⌜ Shaped (now words) ⌝ }
     ensures { λ r. ⌜ r ≡ nonterminalCount (now (words .entry)) ⌝ }
 {
-    wide(words[1])
+    base::wide(header(words, 1))
 }
 
 // P, rules.
@@ -220,7 +225,40 @@ pub fn rule_count(words: &[u16]) -> usize
     requires { ⌜ Shaped (now words) ⌝ }
     ensures { λ r. ⌜ r ≡ ruleCount (now (words .entry)) ⌝ }
 {
-    wide(words[2])
+    base::wide(header(words, 2))
+}
+
+// The opening mark of a cycle, 0 where there is none.
+pub fn opening(words: &[u16]) -> u16
+    requires { ⌜ Shaped (now words) ⌝ }
+    ensures { λ r. ⌜ r ≡ opening (now (words .entry)) ⌝ }
+{
+    header(words, 3)
+}
+
+// The closing mark of a cycle, 0 where there is none.
+pub fn closing(words: &[u16]) -> u16
+    requires { ⌜ Shaped (now words) ⌝ }
+    ensures { λ r. ⌜ r ≡ closing (now (words .entry)) ⌝ }
+{
+    header(words, 4)
+}
+
+// The tick unit: 0 one ms, 1 ten ms.
+pub fn tick_unit(words: &[u16]) -> u16
+    requires { ⌜ Shaped (now words) ⌝ }
+    ensures { λ r. ⌜ r ≡ tickUnit (now (words .entry)) ⌝ }
+{
+    header(words, 5)
+}
+
+// A word of the header.
+fn header(words: &[u16], i: usize) -> u16
+    requires { ⌜ Shaped (now words) ⌝ }
+    requires { ⌜ i < 6 ⌝ }
+    ensures { λ r. ⌜ r ≡ getD (headerWords (now (words .entry))) i 0 ⌝ }
+{
+    words[i]
 }
 
 // The insert cost of terminal t.
@@ -229,7 +267,7 @@ pub fn insert_cost(words: &[u16], t: usize) -> u16
     requires { ⌜ t < terminalCount (now words) ⌝ }
     ensures { λ r. ⌜ r ≡ insertCost (now (words .entry)) t ⌝ }
 {
-    words[HEADER + 2 * t]
+    terminal_word(words, t, 0)
 }
 
 // The reliability of terminal t, as it stands in the words; END's counts as unlimited.
@@ -238,16 +276,27 @@ pub fn reliability_of(words: &[u16], t: usize) -> u16
     requires { ⌜ t < terminalCount (now words) ⌝ }
     ensures { λ r. ⌜ r ≡ reliability (now (words .entry)) t ⌝ }
 {
-    words[HEADER + 2 * t + 1]
+    terminal_word(words, t, 1)
 }
 
-// Where rule p stands.
-pub fn start_of(words: &[u16], places: &[u16], p: usize) -> usize
+// Word i of terminal t: its insert cost, its reliability.
+fn terminal_word(words: &[u16], t: usize, i: usize) -> u16
+    requires { ⌜ Shaped (now words) ⌝ }
+    requires { ⌜ t < terminalCount (now words) ⌝ }
+    requires { ⌜ i < 2 ⌝ }
+    ensures { λ r. ⌜ r ≡ getD (terminalWords (now (words .entry)) t) i 0 ⌝ }
+{
+    words[HEADER + 2 * t + i]
+}
+
+// Word i of rule p: its left side, its length, its symbols.
+fn rule_word(words: &[u16], places: &[u16], p: usize, i: usize) -> u16
     requires { ⌜ Ready (now words) (now places) ⌝ }
     requires { ⌜ p < ruleCount (now words) ⌝ }
-    ensures { λ r. ⌜ StartOf (now (words .entry)) p r ⌝ }
+    requires { ⌜ i < 2 + length (rightSide (now words) p) ⌝ }
+    ensures { λ r. ⌜ r ≡ word (now (words .entry)) (rulePlace (now (words .entry)) p + i) ⌝ }
 {
-    wide(places[p])
+    words[base::wide(places[p]) + i]
 }
 
 // The number of rule p's left side, from 0: the symbol less 64.
@@ -256,7 +305,7 @@ pub fn left_of(words: &[u16], places: &[u16], p: usize) -> u16
     requires { ⌜ p < ruleCount (now words) ⌝ }
     ensures { λ r. ⌜ LeftOf (now (words .entry)) p r ⌝ }
 {
-    words[start_of(words, places, p)]
+    rule_word(words, places, p, 0)
 }
 
 // How many symbols rule p's right side has.
@@ -265,23 +314,15 @@ pub fn size_of(words: &[u16], places: &[u16], p: usize) -> usize
     requires { ⌜ p < ruleCount (now words) ⌝ }
     ensures { λ r. ⌜ SizeOf (now (words .entry)) p r ⌝ }
 {
-    wide(words[start_of(words, places, p) + 1])
+    base::wide(rule_word(words, places, p, 1))
 }
 
 // Symbol i of rule p's right side.
 pub fn symbol_at(words: &[u16], places: &[u16], p: usize, i: usize) -> u16
     requires { ⌜ Ready (now words) (now places) ⌝ }
     requires { ⌜ p < ruleCount (now words) ⌝ }
-    requires { ⌜ i < rightSize (now words) p ⌝ }
+    requires { ⌜ i < length (rightSide (now words) p) ⌝ }
     ensures { λ r. ⌜ SymbolAt (now (words .entry)) p i r ⌝ }
 {
-    words[start_of(words, places, p) + 2 + i]
-}
-
-// A word, to count with.
-fn wide(x: u16) -> usize
-    ensures { λ r. ⌜ r ≡ x ⌝ }
-    ensures { λ r. ⌜ r < 65536 ⌝ }
-{
-    x as usize
+    rule_word(words, places, p, 2 + i)
 }

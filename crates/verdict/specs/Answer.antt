@@ -1,47 +1,33 @@
 -- What the answers of the grammar check mean, and what stands in the tables behind them.
-use Prim.Native.Nat.{ℕ, _+_, _≤_}
-use mathlib.Core.Path.{_≡_, refl, ap, subst}
+use Prim.Native.Nat.{ℕ, _+_, _≤_, _<_}
+use mathlib.Core.Path.{_≡_, refl, sym, ap, _∙_, subst}
 use mathlib.Core.Bool.{Bool}
-use mathlib.Core.List.{List, [], _∷_}
+use mathlib.Core.List.{List}
 use mathlib.Core.Option.{Option, none, some}
 use native.Mathlib.Omega.{arith}
-use lib.ListN.{length}
-use Rattle.grammar.specs.Words.{START, END, ruleCount}
+use lib.ListN.{length, getD}
+use borrow.Rule.Slice.PartMut.{putMid}
+use Rattle.grammar.specs.Words.{Shaped, terminalCount, nonterminalCount, ruleCount, insertCost}
 use Rattle.grammar.specs.Derivation.{NoneShared}
-use Rattle.grammar.specs.Grammar.{RuleOf, Verdict}
+use Rattle.grammar.specs.Cost.{SymbolCost}
+use Rattle.grammar.specs.Grammar.{RuleOf, Verdict, grammarOf, startOverEnd}
+use Rattle.grammar.specs.theory.Conditions.{lowest-unique}
+use Rattle.grammar.specs.theory.Tables.{Inner, Shared, Pushes}
 use Rattle.grammar.specs.declared.Refusal.{Refusal}
-use Rattle.sets.specs.Telling.{Tells}
+use Rattle.base.specs.Telling.{Tells}
 use Rattle.shape.specs.Ready.{Ready}
 use Rattle.costs.specs.Costed.{Costed}
-use Rattle.firsts.specs.Masks.{NullMask, FirstsOf}
-use Rattle.firsts.specs.Asked.{RuleFirstsOf}
-use Rattle.verdict.specs.Judge.{verdict-unique}
-use Rattle.verdict.specs.Prices.{Limited, Priced}
-use Rattle.verdict.specs.Tables.{Tables}
-use Rattle.verdict.specs.Links.{Linked}
+use Rattle.firsts.specs.Masks.{FirstsOf}
+use Rattle.verdict.specs.Parts.{part-length, inside-part, before-part}
+use Rattle.verdict.specs.Prices.{Limited, Limits, LimitOf, priced, price-limit}
+use Rattle.verdict.specs.Sets.{SetsOf}
 use Rattle.verdict.specs.declared.Checked.{Checked}
 use Rattle.verdict.specs.declared.Checked.the-variants.{Accepted, Refused}
-use Rattle.verdict.specs.declared.Judgement.{Judgement}
-use Rattle.verdict.specs.declared.Judgement.the-variants as judged
 
 -- What each answer stands for: nothing refused, or the refusal.
 abbrev pub checkOf : Checked → Option Refusal
 checkOf Accepted = none
 checkOf (Refused r) = some r
-
--- The same of a judgement, which has the mask of the nonterminals that can be empty besides.
-abbrev pub judgementOf : Judgement → Option Refusal
-judgementOf (judged.Passed null) = none
-judgementOf (judged.Refused r) = some r
-
--- Accepted words: where each rule stands, and the sets and costs on which the verdict rests.
-pub record Passing (ws : List ℕ) (null : ℕ) (places costs firsts : List ℕ) : Type 0 where
-  pub verdict : Verdict ws none
-  pub ready : Ready ws places
-  pub nulls : NullMask ws null
-  pub costed : Costed ws costs
-  pub limited : Limited ws costs
-  pub exact : FirstsOf ws firsts
 
 -- The table of costs is filled, and r tells whether no entry is over 60,000.
 pub record Afforded (ws l : List ℕ) (r : Bool) : Type 0 where
@@ -51,69 +37,91 @@ pub record Afforded (ws l : List ℕ) (r : Bool) : Type 0 where
 -- The table of FIRST is filled, and r tells whether no two rules of one nonterminal share a predict token.
 pub record Predicted (ws l : List ℕ) (r : Bool) : Type 0 where
   pub exact : FirstsOf ws l
-  pub tells : Tells (NoneShared (RuleOf ws) (START ∷ END ∷ [])) r
+  pub tells : Tells (NoneShared (RuleOf ws) startOverEnd) r
 
--- What a judgement says of the words, and of what it leaves behind it.
-pub data Judged (ws places costs firsts : List ℕ) : Judgement → Type 0 where
-  passed : {null : ℕ} → Passing ws null places costs firsts → Judged ws places costs firsts (judged.Passed null)
-  refused : {r : Refusal} → Verdict ws (some r) → Judged ws places costs firsts (judged.Refused r)
+-- Accepted words: where each rule stands, and the costs and sets on which the verdict rests.
+pub record Passing (ws places costs sets : List ℕ) : Type 0 where
+  pub ready : Ready ws places
+  pub costed : Costed ws costs
+  pub limited : Limited ws costs
+  pub exact : SetsOf ws sets
 
--- What a judgement says where the tables are filled.
-pub data Tabled (ws firsts rule-firsts costs heads blocks rights : List ℕ) : Judgement → Type 0 where
-  passed : {null : ℕ} → Verdict ws none → Tables ws null firsts rule-firsts costs heads blocks rights
-      → Tabled ws firsts rule-firsts costs heads blocks rights (judged.Passed null)
-  refused : {r : Refusal} → Verdict ws (some r) → Tabled ws firsts rule-firsts costs heads blocks rights (judged.Refused r)
+-- All tables of accepted words.
+pub record Tables (ws sets prices sides rows : List ℕ) : Type 0 where
+  pub shared : Shared (grammarOf ws) (terminalCount ws) (nonterminalCount ws) sets prices
+  pub pushes : Pushes (grammarOf ws) (nonterminalCount ws) (ruleCount ws) sides rows
+
+-- The answer is the verdict, and more is known of accepted words.
+pub record Answered (ws : List ℕ) (Known : Type 0) (a : Checked) : Type 0 where
+  pub verdict : Verdict ws (checkOf a)
+  pub known : a ≡ Accepted → Known
+
+-- The answer of the test, with what it leaves behind it.
+abbrev pub Judged : List ℕ → List ℕ → List ℕ → List ℕ → Checked → Type 0
+Judged ws places costs sets r = Answered ws (Passing ws places costs sets) r
+
+-- The answer where the tables are filled.
+abbrev pub Tabled : List ℕ → List ℕ → List ℕ → List ℕ → List ℕ → Checked → Type 0
+Tabled ws sets prices sides rows r = Answered ws (Tables ws sets prices sides rows) r
 
 -- The sizes of the lent tables.
-pub record Sizes (firsts ruleFirsts costs heads blocks rights : List ℕ) : Type 0 where
-  pub firsts-size : length firsts ≡ 64
-  pub rule-firsts-size : length ruleFirsts ≡ 256
-  pub costs-size : length costs ≡ 128
-  pub heads-size : length heads ≡ 128
-  pub blocks-size : length blocks ≡ 4096
-  pub rights-size : length rights ≡ 256
+pub record Sizes (sets prices sides rows : List ℕ) : Type 0 where
+  pub sets-size : length sets ≡ 65
+  pub prices-size : length prices ≡ 192
+  pub sides-size : length sides ≡ 512
+  pub rows-size : length rows ≡ 4224
 
--- What a caller knows in each arm.
-pub judged-passed : {ws places costs firsts : List ℕ} {j : Judgement} {null : ℕ} → Judged ws places costs firsts j → j ≡ judged.Passed null
-    → Passing ws null places costs firsts
-judged-passed {ws} {places} {costs} {firsts} {null = null} (Judged.passed {null = n} p) e =
-    let same : n ≡ null = cc in subst (λ m. Passing ws m places costs firsts) same p
-judged-passed (Judged.refused v) e = absurd (let z : _≡_ {A = ℕ} 0 1 = cc in omega arith)
+pub accepting : {ws : List ℕ} {Known : Type 0} → Verdict ws none → Known → Answered ws Known Accepted
+accepting v k = record { verdict = v; known = λ _. k }
 
-pub judged-refused : {ws places costs firsts : List ℕ} {j : Judgement} {r : Refusal} → Judged ws places costs firsts j
-    → j ≡ judged.Refused r → Verdict ws (some r)
-judged-refused (Judged.passed p) e = absurd (let z : _≡_ {A = ℕ} 0 1 = cc in omega arith)
-judged-refused {ws} {r = r} (Judged.refused {r = q} v) e = let same : q ≡ r = cc in subst (λ m. Verdict ws (some m)) same v
+pub refusing : {ws : List ℕ} {Known : Type 0} {r : Refusal} → Verdict ws (some r) → Answered ws Known (Refused r)
+refusing v = record { verdict = v; known = λ e. absurd (let z : _≡_ {A = ℕ} 0 1 = cc in omega arith) }
 
--- The tables, from what stands in each.
-pub tabled : {ws places costs firsts rule-firsts priced heads blocks rights : List ℕ} {null : ℕ} → Passing ws null places costs firsts
-    → length firsts ≡ 64 → length rule-firsts ≡ 256 → RuleFirstsOf ws rule-firsts → Priced ws priced
-    → Linked ws (ruleCount ws) heads blocks rights → Tables ws null firsts rule-firsts priced heads blocks rights
-tabled p size sizes rules prices links =
+-- The verdict in an arm that knows the answer.
+pub verdict-in : {ws : List ℕ} {Known : Type 0} {a b : Checked} → Answered ws Known a → a ≡ b → Verdict ws (checkOf b)
+verdict-in {ws} k e = subst (λ x. Verdict ws (checkOf x)) e (k .verdict)
+
+-- ---- The shared tables
+
+-- Costs came back in front of the limits.
+pub shared : {ws places costs sets : List ℕ} (prices limits : List ℕ) → Passing ws places costs sets → length prices ≡ 192
+    → Limits ws (terminalCount ws) limits
+    → Shared (grammarOf ws) (terminalCount ws) (nonterminalCount ws) sets (putMid 128 64 (putMid 0 128 prices costs) limits)
+shared {ws} {places} {costs} {sets} prices limits p size l =
     record {
-      nulls = p .nulls;
-      firsts-size = size;
+      sets-size = p .exact .size;
       first = p .exact .first;
-      rule-firsts-size = sizes;
-      rule-first = rules .first;
-      costs-size = prices .size;
-      cost = prices .cost;
-      cost-limit = prices .limit;
-      heads-size = links .heads-size;
-      head = λ k h. links .head (64 + k);
-      blocks-size = links .blocks-size;
-      block = links .block;
-      rights-size = links .rights-size;
-      right = links .right;
+      nulls = p .exact .nulls;
+      prices-size = part-length 128 64 mid limits room (l .size) ∙ long;
+      cost = λ X i. subst (SymbolCost (RuleOf ws) (insertCost ws) X) (sym (low X i)) (priced shaped (p .costed) (p .limited) X i);
+      cost-limit = λ X i. omega (arith, low X i, price-limit shaped (p .costed) (p .limited) X i);
+      limit = λ t h.
+          let at = inside-part 128 64 mid limits room (l .size) t (128 + t) refl (omega (arith, shaped .terminals-high)) in
+          subst (LimitOf ws t) (sym at) (l .limit t h);
     }
+  where
+    shaped : Shaped ws
+    shaped = p .ready .shaped
+
+    mid : List ℕ
+    mid = putMid 0 128 prices costs
+
+    long : length mid ≡ 192
+    long = part-length 0 128 prices costs (omega arith) (p .costed .size) ∙ size
+
+    room : 192 ≤ length mid
+    room = omega (arith, long)
+
+    small : (X : ℕ) → Inner (terminalCount ws) (nonterminalCount ws) X → X < 128
+    small X (Inner.terminal h) = omega (arith, shaped .terminals-high)
+    small X (Inner.nonterminal a b) = omega (arith, shaped .nonterminals-high)
+
+    low : (X : ℕ) → Inner (terminalCount ws) (nonterminalCount ws) X → getD (putMid 128 64 mid limits) X 0 ≡ getD costs X 0
+    low X i =
+        before-part 128 64 mid limits room (l .size) X (small X i)
+        ∙ inside-part 0 128 prices costs (omega arith) (p .costed .size) X X (omega arith) (small X i)
 
 -- ---- One answer
-
--- The verdict that a judgement with its tables stands for.
-pub tabled-verdict : {ws firsts rule-firsts costs heads blocks rights : List ℕ} {j : Judgement}
-    → Tabled ws firsts rule-firsts costs heads blocks rights j → Verdict ws (judgementOf j)
-tabled-verdict (Tabled.passed v t) = v
-tabled-verdict (Tabled.refused v) = v
 
 same-check : (a b : Checked) → checkOf a ≡ checkOf b → a ≡ b
 same-check Accepted Accepted e = refl
@@ -123,4 +131,4 @@ same-check (Refused r) (Refused q) e = let same : r ≡ q = cc in ap (λ x. Refu
 
 -- Two answers that the contract of `check` allows for the same words are equal.
 pub check-unique : (ws : List ℕ) (a b : Checked) → Verdict ws (checkOf a) → Verdict ws (checkOf b) → a ≡ b
-check-unique ws a b v w = same-check a b (verdict-unique ws (checkOf a) (checkOf b) v w)
+check-unique ws a b v w = same-check a b (lowest-unique v w)

@@ -1,6 +1,7 @@
-pub mod Tables
 pub mod Judge
-pub mod Packing
-pub mod Links
+pub mod Parts
+pub mod Sets
 pub mod Prices
+pub mod Rows
+pub mod Filling
 pub mod Answer

@@ -4,8 +4,9 @@ use native.Mathlib.Omega.{arith}
 use Prim.Native.Nat.{ℕ, _-_, _<_}
 use mathlib.Core.Path.{_≡_}
 use lib.ListN.{length, length-set}
-use Rattle.costs.specs.Falling.{FirstCost, entry}
-use Rattle.costs.proofs.Beginning.{begun, first-more}
+use Rattle.costs.specs.Held.{FirstCost, entry}
+use Rattle.costs.proofs.Beginning.{begun}
+use Rattle.growth.specs.Sums.{filled-more}
 use mathlib.Core.Path.{refl}
 use Rattle.costs.proofs.begin.Statement.{statement}
 use Rattle.costs.proofs.begin.Tie as tie
@@ -40,7 +41,7 @@ loop-again : tie.Need-loop-again Inv-loop μ-loop
 loop-again c =
     let turn = c .before .before .loop in (
       omega (arith, length-set (turn .table) (turn .x) (c .first-cost .result), turn .inv .0),
-      first-more _ (turn .table) _ _ (c .before .loop-test .taken) (turn .inv .1) (c .first-cost .ensures),
+      filled-more (FirstCost _) (turn .table) _ _ (c .before .loop-test .taken) (turn .inv .1) (c .first-cost .ensures),
     )
 
 same-length : tie.Need-same-length Inv-loop μ-loop
@@ -55,15 +56,5 @@ returns c =
 pub begin-spec : {M : Type 1} → statement M
 begin-spec =
     tie.close
-    (tie.spec
-    Inv-loop
-    μ-loop
-    loop-holds
-    first-cost-requires
-    mul-table
-    slice-write-table
-    add-x
-    loop-less
-    loop-again
-    same-length
+    (tie.spec Inv-loop μ-loop loop-holds first-cost-requires mul-table slice-write-table add-x loop-less loop-again same-length
     returns)

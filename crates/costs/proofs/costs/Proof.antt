@@ -1,8 +1,10 @@
 -- `costs::costs` meets its contract: each entry of at most 60,000 is the cost of some string; a round that lowers
 -- nothing shows that it is the least. The measure is the sum.
 use native.Mathlib.Omega.{arith}
-use Rattle.costs.specs.Falling.{Held, sum}
-use Rattle.costs.specs.Settled.{round-costed}
+use mathlib.Core.Path.{sym, _∙_}
+use Rattle.growth.specs.Sums.{sum}
+use Rattle.costs.specs.Held.{Held}
+use Rattle.costs.specs.Settled.{costed}
 use Rattle.costs.proofs.costs.Statement.{statement}
 use Rattle.costs.proofs.costs.Tie as tie
 
@@ -13,49 +15,32 @@ abbrev μ-loop : tie.MeasureT-loop
 μ-loop words places table₀ table = sum table
 
 begin-requires : tie.Need-begin-requires Inv-loop μ-loop
-begin-requires c κs =
-    let start = c .before .before .before .before in
-    (start .pre .0 .shaped, start .pre .1)
+begin-requires c κs = (c .before .before .before .before .pre .0 .shaped, c .before .before .before .before .pre .1)
 
 loop-holds : tie.Need-loop-holds Inv-loop μ-loop
 loop-holds c = c .before .before .begin .ensures
 
 round-requires : tie.Need-round-requires Inv-loop μ-loop
-round-requires c κs =
-    let start = c .before .before .before .before .before .before .before .before .before in
-    (start .pre .0, c .before .loop .inv)
+round-requires c κs = (c .before .before .before .before .before .before .before .before .before .pre .0, c .before .loop .inv)
+
+loop-less : tie.Need-loop-less Inv-loop μ-loop
+loop-less c = omega (arith, c .before .before .before .round .ensures .raised (c .if1 .taken))
+
+loop-again : tie.Need-loop-again Inv-loop μ-loop
+loop-again c = c .before .before .before .round .ensures .sound
 
 same-length : tie.Need-same-length Inv-loop μ-loop
 same-length c =
     let at-round = c .before .before .before in
     let start = at-round .before .before .before .before .before .before .before .before .before .before in
-    omega (arith, at-round .round .ensures .held .size, start .pre .1)
+    at-round .round .ensures .sound .size ∙ sym (start .pre .1)
 
 returns : tie.Need-returns Inv-loop μ-loop
 returns c =
-    let at-round = c .before .before .before in
-    round-costed _ (at-round .round .ensures) (c .if1 .taken)
-
-loop-less : tie.Need-loop-less Inv-loop μ-loop
-loop-less c =
-    let at-round = c .before .before .before in
-    omega (arith, at-round .round .ensures .sums)
-
-loop-again : tie.Need-loop-again Inv-loop μ-loop
-loop-again c =
-    let at-round = c .before .before .before in
-    at-round .round .ensures .held
+    let round = c .before .before .before .round in
+    costed _ _ (round .ensures .sound) (round .ensures .closed (c .if1 .left))
 
 pub costs-spec : {M : Type 1} → statement M
 costs-spec =
     tie.close
-    (tie.spec
-    Inv-loop
-    μ-loop
-    begin-requires
-    loop-holds
-    round-requires
-    same-length
-    returns
-    loop-less
-    loop-again)
+    (tie.spec Inv-loop μ-loop begin-requires loop-holds round-requires loop-less loop-again same-length returns)

@@ -15,8 +15,8 @@ enum-told c = search needs
 enum-known-checked : tie.Need-enum-known-checked
 enum-known-checked c = search needs
 
-refusal-number-requires : tie.Need-refusal-number-requires
-refusal-number-requires c κs = search needs
+number-of-requires : tie.Need-number-of-requires
+number-of-requires c κs = search needs
 
 returns : tie.Need-returns
 returns c = accepts (c .before .before .check .ensures) (ap checkOf (c .enum-told .given .1))
@@ -25,7 +25,7 @@ returns-2 : tie.Need-returns-2
 returns-2 c =
     let at-checked = c .before .before in
     let at-check = at-checked .before .before in
-    rejects (at-check .check .ensures) (ap checkOf (at-checked .checked .given .1)) (c .refusal-number .ensures)
+    rejects (at-check .check .ensures) (ap checkOf (at-checked .checked .given .1)) (c .number-of .ensures)
 
 pub odhrashup-check-spec : {M : Type 1} → statement M
 odhrashup-check-spec =
@@ -34,6 +34,6 @@ odhrashup-check-spec =
     check-requires
     enum-told
     enum-known-checked
-    refusal-number-requires
+    number-of-requires
     returns
     returns-2)

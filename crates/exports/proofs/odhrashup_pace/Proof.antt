@@ -6,14 +6,14 @@ use borrow.Author.Needs.{needs}
 use Rattle.exports.proofs.odhrashup_pace.Statement.{statement}
 use Rattle.exports.proofs.odhrashup_pace.Tie as tie
 
-clear-requires : tie.Need-clear-requires
-clear-requires c κs = search needs
+clear-numbers-requires : tie.Need-clear-numbers-requires
+clear-numbers-requires c κs = search needs
 
 clear-mean-requires : tie.Need-clear-mean-requires
 clear-mean-requires c κs = search needs
 
-pace-requires : tie.Need-pace-requires
-pace-requires c κs = search needs
+report-requires : tie.Need-report-requires
+report-requires c κs = search needs
 
 enum-known-paced : tie.Need-enum-known-paced
 enum-known-paced c = search needs
@@ -24,8 +24,8 @@ put-report-requires c κs = search needs
 enum-known-paced-2 : tie.Need-enum-known-paced-2
 enum-known-paced-2 c = search needs
 
-refusal-number-requires : tie.Need-refusal-number-requires
-refusal-number-requires c κs = search needs
+number-of-requires : tie.Need-number-of-requires
+number-of-requires c κs = search needs
 
 same-length : tie.Need-same-length
 same-length c = search needs
@@ -43,10 +43,10 @@ returns : tie.Need-returns
 returns c =
     let at-put-report = c .before .before .before .before in
     let at-paced = at-put-report .before .before .before .before in
-    let at-pace = at-paced .before .before .before .before .before .before in
-    let at-clear-mean = at-pace .before .before .before .before .before in
+    let at-report = at-paced .before .before .before .before .before .before in
+    let at-clear-mean = at-report .before .before .before .before .before in
     let at-clear = at-clear-mean .before .before .before .before in
-    paces (at-pace .pace .ensures) _ _ (ap pacedOf (at-paced .paced .given .1)) (at-clear .clear .ensures)
+    paces (at-report .report .ensures) _ _ (ap pacedOf (at-paced .paced .given .1)) (at-clear .clear-numbers .ensures)
     (at-clear-mean .clear-mean .ensures) (at-put-report .put-report .ensures)
 
 same-length-5 : tie.Need-same-length-5
@@ -64,23 +64,23 @@ same-length-8 c = search needs
 returns-2 : tie.Need-returns-2
 returns-2 c =
     let at-paced2 = c .before .before in
-    let at-pace = at-paced2 .before .before .before .before .before .before in
-    let at-clear-mean = at-pace .before .before .before .before .before in
+    let at-report = at-paced2 .before .before .before .before .before .before in
+    let at-clear-mean = at-report .before .before .before .before .before in
     let at-clear = at-clear-mean .before .before .before .before in
-    paces-not (at-pace .pace .ensures) _ _ (ap pacedOf (at-paced2 .paced2 .given .1)) (at-clear .clear .ensures)
-    (at-clear-mean .clear-mean .ensures) (c .refusal-number .ensures)
+    paces-not (at-report .report .ensures) _ _ (ap pacedOf (at-paced2 .paced2 .given .1)) (at-clear .clear-numbers .ensures)
+    (at-clear-mean .clear-mean .ensures) (c .number-of .ensures)
 
 pub odhrashup-pace-spec : {M : Type 1} → statement M
 odhrashup-pace-spec =
     tie.close
     (tie.spec
-    clear-requires
+    clear-numbers-requires
     clear-mean-requires
-    pace-requires
+    report-requires
     enum-known-paced
     put-report-requires
     enum-known-paced-2
-    refusal-number-requires
+    number-of-requires
     same-length
     same-length-2
     same-length-3

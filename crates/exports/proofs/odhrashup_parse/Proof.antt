@@ -1,13 +1,13 @@
 -- `exports::odhrashup_parse` meets its contract: three counts over a cleared buffer, or the buffer cleared.
-use mathlib.Core.Path.{ap}
-use Rattle.repair.specs.Runs.{parsingOf}
-use Rattle.exports.proofs.Answers.{parses, parses-not}
+use mathlib.Core.Path.{ap, refl}
+use Rattle.parser.specs.Runs.{parsingOf}
+use Rattle.exports.proofs.Answers.{answers, refuses, three-counts}
 use borrow.Author.Needs.{needs}
 use Rattle.exports.proofs.odhrashup_parse.Statement.{statement}
 use Rattle.exports.proofs.odhrashup_parse.Tie as tie
 
-clear-requires : tie.Need-clear-requires
-clear-requires c κs = search needs
+clear-numbers-requires : tie.Need-clear-numbers-requires
+clear-numbers-requires c κs = search needs
 
 parse-requires : tie.Need-parse-requires
 parse-requires c κs = search needs
@@ -27,8 +27,8 @@ put-requires-3 c κs = search needs
 enum-known-parsing-2 : tie.Need-enum-known-parsing-2
 enum-known-parsing-2 c = search needs
 
-refusal-number-requires : tie.Need-refusal-number-requires
-refusal-number-requires c κs = search needs
+number-of-requires : tie.Need-number-of-requires
+number-of-requires c κs = search needs
 
 same-length : tie.Need-same-length
 same-length c = search needs
@@ -48,8 +48,9 @@ returns c =
     let at-parsing = at-put .before .before .before in
     let at-parse = at-parsing .before .before .before .before .before .before in
     let at-clear = at-parse .before .before .before .before .before in
-    parses (at-parse .parse .ensures) _ (ap parsingOf (at-parsing .parsing .given .1)) (at-clear .clear .ensures)
-    (at-put .put .ensures) (at-put2 .put2 .ensures) (at-put3 .put3 .ensures)
+    answers (at-parse .parse .ensures) (ap parsingOf (at-parsing .parsing .given .1)) refl
+    (three-counts _ (at-parsing .parsing .given .0 .0) (at-clear .clear-numbers .ensures)
+    (at-put .put .ensures) (at-put2 .put2 .ensures) (at-put3 .put3 .ensures))
 
 same-length-4 : tie.Need-same-length-4
 same-length-4 c = search needs
@@ -66,21 +67,21 @@ returns-2 c =
     let at-parsing2 = c .before .before in
     let at-parse = at-parsing2 .before .before .before .before .before .before in
     let at-clear = at-parse .before .before .before .before .before in
-    parses-not (at-parse .parse .ensures) _ (ap parsingOf (at-parsing2 .parsing2 .given .1)) (at-clear .clear .ensures)
-    (c .refusal-number .ensures)
+    refuses (at-parse .parse .ensures) (ap parsingOf (at-parsing2 .parsing2 .given .1)) (at-clear .clear-numbers .ensures)
+    (c .number-of .ensures)
 
 pub odhrashup-parse-spec : {M : Type 1} → statement M
 odhrashup-parse-spec =
     tie.close
     (tie.spec
-    clear-requires
+    clear-numbers-requires
     parse-requires
     enum-known-parsing
     put-requires
     put-requires-2
     put-requires-3
     enum-known-parsing-2
-    refusal-number-requires
+    number-of-requires
     same-length
     same-length-2
     same-length-3

@@ -25,10 +25,8 @@ returns c =
     let left-of = c .before .before .before .before .left-of in
     let first-with = c .before .before .before .before .before .first-with in
     let add-to = c .before .before .add-to in
-    rule-turn _ (start .pre .0 .ready .shaped) _ (start .pre .0 .nulls) _ (start .pre .1) (left-of .ensures .names)
-    (first-with .ensures) (add-to .ensures)
+    rule-turn _ (start .pre .0 .ready .shaped) _ (start .pre .0 .nulls) _ (start .pre .1 .0) (left-of .ensures .names)
+    (first-with .ensures) (add-to .ensures) (start .pre .1 .1)
 
 pub add-rule-spec : {M : Type 1} → statement M
-add-rule-spec =
-    tie.close
-    (tie.spec first-with-requires left-of-requires cast-add-to add-to-requires same-length returns)
+add-rule-spec = tie.close (tie.spec first-with-requires left-of-requires cast-add-to add-to-requires same-length returns)

@@ -15,9 +15,7 @@ size-of-requires : tie.Need-size-of-requires Inv-loop μ-loop
 size-of-requires c κs = (c .before .before .before .pre .0 .ready, c .before .before .before .pre .1)
 
 loop-holds : tie.Need-loop-holds Inv-loop μ-loop
-loop-holds c =
-    let start = c .before .before .before .before in
-    walk-begins _ (start .pre .0 .ready .shaped) _ (start .pre .1) _ _ _ _ (c .size-of .ensures)
+loop-holds c = walk-begins _ _ _ (c .size-of .ensures)
 
 sub-i : tie.Need-sub-i Inv-loop μ-loop
 sub-i c = search needs
@@ -36,11 +34,8 @@ loop-less c = search needs
 
 loop-again : tie.Need-loop-again Inv-loop μ-loop
 loop-again c =
-    let start = c .before .before .before .before .before .before .before .before in
     let loop = c .before .before .before .loop in
-    let loop-test = c .before .before .loop-test in
-    walk-goes _ (start .pre .0 .ready .shaped) _ (start .pre .1) (loop .inv) (loop-test .taken) (c .before .symbol-at .ensures)
-    (c .pass .ensures)
+    walk-goes (loop .inv) (c .before .before .loop-test .taken) (c .before .symbol-at .ensures) (c .pass .ensures)
 
 returns : tie.Need-returns Inv-loop μ-loop
 returns c = walk-ends (c .before .loop .inv) (omega arith)
@@ -48,14 +43,4 @@ returns c = walk-ends (c .before .loop .inv) (omega arith)
 pub first-with-spec : {M : Type 1} → statement M
 first-with-spec =
     tie.close
-    (tie.spec
-    Inv-loop
-    μ-loop
-    size-of-requires
-    loop-holds
-    sub-i
-    symbol-at-requires
-    pass-requires
-    loop-less
-    loop-again
-    returns)
+    (tie.spec Inv-loop μ-loop size-of-requires loop-holds sub-i symbol-at-requires pass-requires loop-less loop-again returns)

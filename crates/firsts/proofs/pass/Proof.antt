@@ -38,13 +38,4 @@ returns-3 c = with-stop _ _ _ _ (c .before .before .before .if1 .left) (sym (c .
 pub pass-spec : {M : Type 1} → statement M
 pass-spec =
     tie.close
-    (tie.spec
-    with-requires
-    returns
-    cast-own
-    mul-own
-    shared-slice-read-own
-    has-requires
-    union-requires
-    returns-2
-    returns-3)
+    (tie.spec with-requires returns cast-own mul-own shared-slice-read-own has-requires union-requires returns-2 returns-3)

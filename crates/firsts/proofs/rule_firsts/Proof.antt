@@ -1,19 +1,20 @@
 -- `firsts::rule_firsts` meets its contract: the sets in front of p are exact.
+use Rattle.grammar.specs.Grammar.{RuleOf}
 use borrow.Author.Needs.{needs}
 use native.Mathlib.Omega.{arith}
 use Prim.Native.Nat.{ℕ, _<_, _-_}
 use mathlib.Core.Path.{_≡_, refl}
 use lib.ListN.{length, getD, length-set}
+use Rattle.grammar.specs.theory.Masks.{FirstMask}
 use Rattle.grammar.specs.Words.{rightSide}
 use Rattle.growth.specs.Sums.{filled-more}
-use Rattle.firsts.specs.Masks.{FirstMask}
 use Rattle.firsts.specs.Firsts.{right-first}
 use Rattle.firsts.proofs.rule_firsts.Statement.{statement}
 use Rattle.firsts.proofs.rule_firsts.Tie as tie
 
 abbrev Inv-loop : tie.InvT-loop
 Inv-loop words places null firsts out₀ count p₀ out p =
-    (length out ≡ length out₀) × ((q : ℕ) → q < p → FirstMask words (rightSide words q) (getD out q 0))
+    (length out ≡ length out₀) × ((q : ℕ) → q < p → FirstMask (RuleOf words) (rightSide words q) (getD out q 0))
 
 abbrev μ-loop : tie.MeasureT-loop
 μ-loop words places null firsts out₀ count p₀ out p = count - p
@@ -65,7 +66,7 @@ loop-again c =
     let size = start .pre .1 .1 in
     let inv = loop .inv in (
       simp length-set (inv .0),
-      filled-more (λ q m. FirstMask (start .args .words .now) (rightSide (start .args .words .now) q) m)
+      filled-more (λ q m. FirstMask (RuleOf (start .args .words .now)) (rightSide (start .args .words .now) q) m)
           (loop .out) (loop .p) _ (omega arith) (inv .1) (right-first _ s _ (start .pre .0 .nulls) (start .pre .1 .0) (loop .p)
           (omega arith) (c .first-with .ensures)),
     )
@@ -79,16 +80,5 @@ returns c = let n = c .before .before .rule-count .ensures in record { first = �
 pub rule-firsts-spec : {M : Type 1} → statement M
 rule-firsts-spec =
     tie.close
-    (tie.spec
-    Inv-loop
-    μ-loop
-    rule-count-requires
-    loop-holds
-    first-with-requires
-    mul-out
-    slice-write-out
-    add-p
-    loop-less
-    loop-again
-    same-length
-    returns)
+    (tie.spec Inv-loop μ-loop rule-count-requires loop-holds first-with-requires mul-out slice-write-out add-p loop-less
+    loop-again same-length returns)

@@ -1,11 +1,12 @@
 -- `follows::add_behind` meets its contract: a terminal has no set.
-use Rattle.follows.specs.Feeding.{behind-terminal, behind-nonterminal}
+use mathlib.Core.Path.{refl}
+use Rattle.follows.specs.Feeding.{AddedBehind}
 use borrow.Author.Needs.{needs}
 use Rattle.follows.proofs.add_behind.Statement.{statement}
 use Rattle.follows.proofs.add_behind.Tie as tie
 
 returns : tie.Need-returns
-returns c = behind-terminal _ _ _ (c .if1 .taken)
+returns c = AddedBehind.terminal (c .if1 .taken) refl refl
 
 cast-add-to : tie.Need-cast-add-to
 cast-add-to c = search needs
@@ -17,7 +18,7 @@ same-length : tie.Need-same-length
 same-length c = search needs
 
 returns-2 : tie.Need-returns-2
-returns-2 c = behind-nonterminal (c .before .before .before .before .if1 .left) (c .before .before .add-to .ensures)
+returns-2 c = AddedBehind.nonterminal (c .before .before .before .before .if1 .left) (c .before .before .add-to .ensures)
 
 pub add-behind-spec : {M : Type 1} → statement M
 add-behind-spec = tie.close (tie.spec returns cast-add-to add-to-requires same-length returns-2)

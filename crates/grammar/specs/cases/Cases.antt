@@ -7,13 +7,13 @@ use mathlib.Core.Option.{Option, none, some}
 use lib.ListN.{length}
 use Rattle.grammar.specs.Buffers.{filled, cleared}
 use Rattle.grammar.specs.Moves.{Edit, editWords}
-use Rattle.grammar.specs.Refusals.{given, refused}
-use Rattle.grammar.specs.Run.{Counts, Parsed}
+use Rattle.grammar.specs.Refusals.{given, refused, numberOf}
+use Rattle.grammar.specs.Run.{Parsed}
 use Rattle.grammar.specs.Pace.{Reported, paceOf}
 use Rattle.grammar.specs.declared.Refusal.{Refusal}
-use Rattle.grammar.specs.declared.Refusal.the-variants.{Unreachable, NoString, SharedPredict}
 use Rattle.grammar.specs.declared.Pace.the-variants.{Idle}
 use Rattle.grammar.specs.declared.Report.{Report}
+use Rattle.grammar.specs.declared.Counts.{Counts}
 
 -- ---- What the table says
 
@@ -31,7 +31,7 @@ pub record Told : Type 0 where
 
 pub data Expected : Type 0 where
   result : Told → Expected
-  refuses : Refusal → Expected
+  refuses : ℕ → Expected
 
 pub record Case : Type 0 where
   pub words : List ℕ
@@ -135,11 +135,11 @@ cases =
       expected = result (record { moves = 10; edits = some []; rules = some (0 ∷ 2 ∷ 3 ∷ []); pace = some (cycles 1 1004) });
     }
     -- case 9: 64 -> 64 1; 64 -> empty: refused 9
-    ∷ record { words = small 1 2 (0 ∷ 2 ∷ 64 ∷ 1 ∷ 0 ∷ 0 ∷ []); log = []; ticks = []; expected = refuses SharedPredict }
+    ∷ record { words = small 1 2 (0 ∷ 2 ∷ 64 ∷ 1 ∷ 0 ∷ 0 ∷ []); log = []; ticks = []; expected = refuses 9 }
     -- case 10: 64 -> 64 only: refused 7
-    ∷ record { words = small 1 1 (0 ∷ 1 ∷ 64 ∷ []); log = []; ticks = []; expected = refuses NoString }
+    ∷ record { words = small 1 1 (0 ∷ 1 ∷ 64 ∷ []); log = []; ticks = []; expected = refuses 7 }
     -- case 11: N 2: 64 -> empty; 65 -> 1: refused 6
-    ∷ record { words = small 2 2 (0 ∷ 0 ∷ 1 ∷ 1 ∷ 1 ∷ []); log = []; ticks = []; expected = refuses Unreachable }
+    ∷ record { words = small 2 2 (0 ∷ 0 ∷ 1 ∷ 1 ∷ 1 ∷ []); log = []; ticks = []; expected = refuses 6 }
     -- case 12: T 2, 64 -> empty, log 1: 3 moves, the bound itself: 2 + 1 + 0 x 1 x 1
     ∷ record {
       words = small 1 1 (0 ∷ 0 ∷ []);
@@ -180,20 +180,22 @@ pub record Results (c : Case) (told : Told) : Type 0 where
   pub editBuffer : List ℕ
   pub ruleBuffer : List ℕ
   pub parsed : Parsed (c .words) (c .log) editRoom ruleRoom (given counts) editBuffer ruleBuffer
-  pub reported : Reported (c .words) (c .log) (c .ticks) editRoom ruleRoom (given report) editBuffer ruleBuffer
+  pub reported : Reported (c .words) (c .log) (c .ticks) editRoom ruleRoom (given (report, counts)) editBuffer ruleBuffer
   pub moves : counts .moves ≡ told .moves
   pub edits : EditsTold (told .edits) (counts .records) editBuffer
   pub rules : RulesTold (told .rules) (counts .listed) ruleBuffer
   pub pace : PaceTold (told .pace) report
 
--- Parser and report both refuse with r, and leave zeros.
-pub record Refuses (c : Case) (r : Refusal) : Type 0 where
-  pub parsed : Parsed (c .words) (c .log) editRoom ruleRoom (refused r) (cleared editRoom) (cleared ruleRoom)
-  pub reported : Reported (c .words) (c .log) (c .ticks) editRoom ruleRoom (refused r) (cleared editRoom) (cleared ruleRoom)
+-- Parser and report both refuse with one number, and leave zeros.
+pub record Refuses (c : Case) (number : ℕ) : Type 0 where
+  pub refusal : Refusal
+  pub numbered : numberOf refusal ≡ number
+  pub parsed : Parsed (c .words) (c .log) editRoom ruleRoom (refused refusal) (cleared editRoom) (cleared ruleRoom)
+  pub reported : Reported (c .words) (c .log) (c .ticks) editRoom ruleRoom (refused refusal) (cleared editRoom) (cleared ruleRoom)
 
 abbrev pub GivesAs : Case → Expected → Type 0
 GivesAs c (result told) = Results c told
-GivesAs c (refuses r) = Refuses c r
+GivesAs c (refuses number) = Refuses c number
 
 -- The definitions give the case as the table has it.
 abbrev pub Gives : Case → Type 0

@@ -1,30 +1,14 @@
--- What the model answers is compared with what the table says: edits, rules, pace, refusals.
+-- What the model answers is compared with what the table says: edits, rules, pace.
 use Prim.Native.Nat.{ℕ}
 use mathlib.Core.Path.{_≡_, refl, ap, _∙_}
-use mathlib.Core.Bool.{Bool, true, false, _&&_, cond}
+use mathlib.Core.Bool.{Bool, true, false, _&&_}
 use mathlib.Core.List.{List, [], _∷_}
 use mathlib.Core.Option.{Option, none, some}
 use lib.ListN.{length}
 use lib.Dec.{T, eqb, eqb→eq}
 use Rattle.grammar.specs.Buffers.{filled}
 use Rattle.grammar.specs.Moves.{Move, Edit, edits, editWords, ruleNumbers}
-use Rattle.grammar.specs.Refusals.{numberOf}
 use Rattle.grammar.specs.Pace.{Span, reportOf, totalMs, paceOf}
-use Rattle.grammar.specs.declared.Refusal.{Refusal}
-use Rattle.grammar.specs.declared.Refusal.the-variants.{
-  BadSize,
-  BadCheck,
-  BadBlock,
-  ShortWords,
-  BadShape,
-  Unreachable,
-  NoString,
-  TooCostly,
-  SharedPredict,
-  BadLog,
-  StackFull,
-  NoRoom,
-}
 use Rattle.grammar.specs.model.Tests.{left-of, right-of}
 use Rattle.grammar.specs.cases.Cases.{ToldPace, idle, cycles, EditsTold, RulesTold, PaceTold, editRoom, ruleRoom}
 
@@ -61,7 +45,8 @@ pub edits-agree : (o : Option (List Edit)) (ms : List Move) → T (editsAgree o 
 unfolding editsAgree
 edits-agree none ms h = tt
 edits-agree (some es) ms h = (
-  eqb→eq (length (edits ms)) (length es) (left-of (eqb (length (edits ms)) (length es)) (sameList (editWords (edits ms)) (editWords es)) h),
+  eqb→eq (length (edits ms)) (length es)
+      (left-of (eqb (length (edits ms)) (length es)) (sameList (editWords (edits ms)) (editWords es)) h),
   ap (filled editRoom)
       (same-list (editWords (edits ms)) (editWords es)
       (right-of (eqb (length (edits ms)) (length es)) (sameList (editWords (edits ms)) (editWords es)) h)),
@@ -84,33 +69,3 @@ pace-agrees (some (cycles m u)) unit ticks cs h =
     let e = eqb→eq (length cs) m (left-of (eqb (length cs) m) (eqb (totalMs unit ticks cs) u) h) in
     let d = eqb→eq (totalMs unit ticks cs) u (right-of (eqb (length cs) m) (eqb (totalMs unit ticks cs) u) h) in
     (e, d, ap (λ n. paceOf n (totalMs unit ticks cs)) e ∙ ap (paceOf m) d)
-
--- A refusal is known by its number.
-unfoldable pub numbered : ℕ → Refusal
-numbered n =
-    cond (eqb n 1) BadSize
-    (cond (eqb n 2) BadCheck
-    (cond (eqb n 3) BadBlock
-    (cond (eqb n 4) ShortWords
-    (cond (eqb n 5) BadShape
-    (cond (eqb n 6) Unreachable
-    (cond (eqb n 7) NoString
-    (cond (eqb n 8) TooCostly
-    (cond (eqb n 9) SharedPredict
-    (cond (eqb n 10) BadLog
-    (cond (eqb n 11) StackFull NoRoom))))))))))
-
-pub is-numbered : (r : Refusal) → numbered (numberOf r) ≡ r
-unfolding numbered numberOf
-is-numbered BadSize = refl
-is-numbered BadCheck = refl
-is-numbered BadBlock = refl
-is-numbered ShortWords = refl
-is-numbered BadShape = refl
-is-numbered Unreachable = refl
-is-numbered NoString = refl
-is-numbered TooCostly = refl
-is-numbered SharedPredict = refl
-is-numbered BadLog = refl
-is-numbered StackFull = refl
-is-numbered NoRoom = refl

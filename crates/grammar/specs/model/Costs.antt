@@ -4,20 +4,16 @@ use Prim.Native.Nat.{ℕ, zero, suc, _+_, _-_}
 use mathlib.Core.Path.{_≡_, refl, sym, subst}
 use mathlib.Core.Bool.{Bool, true, false, cond}
 use mathlib.Core.Option.{Option, none, some}
-use mathlib.Core.List.{List, [], _∷_, _++_, map}
+use mathlib.Core.List.{List, [], _∷_, map}
 use mathlib.Core.Logic.{_⊎_, inl, inr, ⊎-elim}
 use native.Mathlib.Omega.{arith}
 use lib.ListN.{getD}
 use lib.Dec.{T, eqb, eqb→eq, ltb, ltb→lt, leb}
-use Rattle.grammar.specs.Derivation.{All, Yields}
-use Rattle.grammar.specs.Cost.{stringCost}
-use Rattle.grammar.specs.theory.Leftmost.{Der, der-refl, der-append, to-der, of-der}
-use Rattle.grammar.specs.theory.Closed.{all-append}
+use Rattle.grammar.specs.theory.Rewriting.{Affords, affords-nothing, affords-terminal, affords-append, affords-rule}
 use Rattle.grammar.specs.theory.Pigeonhole.{range}
 use borrow.Author.Tests.{ltb-false}
 use Rattle.grammar.specs.model.Tests.{none-some, some-same}
 use Rattle.grammar.specs.model.Ruled.{Rule, RuleAt}
-use Rattle.grammar.specs.model.Sets.{rewritten}
 
 -- The sum of two costs, where both are known; the lower of two, where one is.
 unfoldable pub plus : Option ℕ → Option ℕ → Option ℕ
@@ -53,11 +49,6 @@ rounds price rs N (suc n) = let table = rounds price rs N n in map (λ A. best p
 
 -- ---- Each entry is the cost of a terminal string
 
-pub record Affords (rs : List Rule) (price : ℕ → ℕ) (α : List ℕ) (c : ℕ) : Type 0 where
-  pub string : List ℕ
-  pub yields : Yields (RuleAt rs) α string
-  pub costs : stringCost price string ≡ c
-
 pub plus-some : (a b : Option ℕ) (c : ℕ) → plus a b ≡ some c → (x y : ℕ) × (a ≡ some x) × (b ≡ some y) × (c ≡ x + y)
 unfolding plus
 plus-some none b c e = absurd (none-some e)
@@ -74,35 +65,18 @@ lower-some (some a) (some b) c e = go (leb a b) e
     go true e = inl e
     go false e = inr e
 
-pub string-append : (price : ℕ → ℕ) (v w : List ℕ) → stringCost price (v ++ w) ≡ stringCost price v + stringCost price w
-unfolding stringCost
-string-append price [] w = omega arith
-string-append price (t ∷ v) w = omega (arith, string-append price v w)
-
 module _ (rs : List Rule) (price : ℕ → ℕ) where
   -- Every entry of the table is the cost of a string.
   abbrev pub Sound : List (Option ℕ) → Type 0
-  Sound table = (X c : ℕ) → costBy price table X ≡ some c → Affords rs price (X ∷ []) c
+  Sound table = (X c : ℕ) → costBy price table X ≡ some c → Affords (RuleAt rs) price (X ∷ []) c
 
-  affords-append : {α β : List ℕ} {c d : ℕ} → Affords rs price α c → Affords rs price β d → Affords rs price (α ++ β) (c + d)
-  affords-append a b =
-      record {
-        string = a .string ++ b .string;
-        yields = record {
-          terminals = all-append (a .yields .terminals) (b .yields .terminals);
-          derives = of-der _ (der-append _ (to-der _ (a .yields .derives)) (to-der _ (b .yields .derives)));
-        };
-        costs = omega (arith, string-append price (a .string) (b .string), a .costs, b .costs);
-      }
-
-  sum-sound : (table : List (Option ℕ)) → Sound table → (α : List ℕ) (c : ℕ) → sumBy price table α ≡ some c → Affords rs price α c
-  unfolding sumBy stringCost
-  sum-sound table s [] c e =
-      record { string = []; yields = record { terminals = All.nothing; derives = of-der _ Der.done }; costs = some-same e }
+  sum-sound : (table : List (Option ℕ)) → Sound table → (α : List ℕ) (c : ℕ) → sumBy price table α ≡ some c → Affords (RuleAt rs) price α c
+  unfolding sumBy
+  sum-sound table s [] c e = subst (Affords (RuleAt rs) price []) (some-same e) (affords-nothing (RuleAt rs) price)
   sum-sound table s (X ∷ α) c e =
       let h = plus-some (costBy price table X) (sumBy price table α) c e in
-      subst (λ n. Affords rs price (X ∷ α) n) (sym (h .4))
-      (affords-append (s X (h .0) (h .2)) (sum-sound table s α (h .1) (h .3)))
+      subst (λ n. Affords (RuleAt rs) price (X ∷ α) n) (sym (h .4))
+      (affords-append (RuleAt rs) price (s X (h .0) (h .2)) (sum-sound table s α (h .1) (h .3)))
 
   -- The rule that a cheapest right side comes from.
   best-rule : (table : List (Option ℕ)) (A c : ℕ) (us : List Rule) → best price table A us ≡ some c
@@ -129,23 +103,17 @@ range-entry f a (suc n) (suc i) c e = subst (λ k. f k ≡ some c) (omega arith)
 
 module _ (rs : List Rule) (price : ℕ → ℕ) (N : ℕ) where
   -- A table over the nonterminals is sound where each entry is.
-  table-sound : (f : ℕ → Option ℕ) → ((A c : ℕ) → f A ≡ some c → Affords rs price (A ∷ []) c) → Sound rs price (map f (range 64 N))
-  unfolding costBy stringCost
+  table-sound : (f : ℕ → Option ℕ) → ((A c : ℕ) → f A ≡ some c → Affords (RuleAt rs) price (A ∷ []) c)
+      → Sound rs price (map f (range 64 N))
+  unfolding costBy
   table-sound f s X c e = go (ltb X 64) refl e
     where
       go : (b : Bool) → ltb X 64 ≡ b → cond b (some (price X)) (getD (map f (range 64 N)) (X - 64) none) ≡ some c
-          → Affords rs price (X ∷ []) c
-      go true q k =
-          record {
-            string = X ∷ [];
-            yields = record {
-              terminals = All.also (ltb→lt X 64 (subst T (sym q) tt)) All.nothing;
-              derives = of-der _ (der-refl _ (X ∷ []));
-            };
-            costs = omega (arith, some-same k);
-          }
+          → Affords (RuleAt rs) price (X ∷ []) c
+      go true q k = affords-terminal (RuleAt rs) price (ltb→lt X 64 (subst T (sym q) tt)) (some-same k)
       go false q k =
-          subst (λ Y. Affords rs price (Y ∷ []) c) (omega (arith, ltb-false X 64 q)) (s (64 + (X - 64)) c (range-entry f 64 N (X - 64) c k))
+          subst (λ Y. Affords (RuleAt rs) price (Y ∷ []) c) (omega (arith, ltb-false X 64 q))
+          (s (64 + (X - 64)) c (range-entry f 64 N (X - 64) c k))
 
   pub rounds-sound : (n : ℕ) → Sound rs price (rounds price rs N n)
   unfolding rounds
@@ -155,9 +123,4 @@ module _ (rs : List Rule) (price : ℕ → ℕ) (N : ℕ) where
       table-sound (λ A. best price table A rs)
       (λ A c e.
       let h = best-rule rs price table A c rs e in
-      let k = sum-sound rs price table (rounds-sound n) (h .1) c (h .3) in
-      record {
-        string = k .string;
-        yields = record { terminals = k .yields .terminals; derives = of-der _ (rewritten (h .2) (to-der _ (k .yields .derives))) };
-        costs = k .costs;
-      })
+      affords-rule (RuleAt rs) price (h .2) (sum-sound rs price table (rounds-sound n) (h .1) c (h .3)))

@@ -3,14 +3,27 @@
 use Prim.Native.Nat.{ℕ, _<_}
 use mathlib.Core.Path.{_≡_, refl, sym, ap, _∙_, subst}
 use mathlib.Core.Bool.{Bool, true, false, _&&_, _||_, not, cond}
-use mathlib.Core.List.{List, [], _∷_, _++_, List·Memᴰ, List·Memᴰ·head, List·Memᴰ·tail, List·Memᴰ·cases-cons, List·Memᴰ·not-nil, Memᴰ·cast, Memᴰ·append-left, Memᴰ·append-right}
+use mathlib.Core.List.{
+  List,
+  [],
+  _∷_,
+  _++_,
+  List·Memᴰ,
+  List·Memᴰ·head,
+  List·Memᴰ·tail,
+  List·Memᴰ·cases-cons,
+  List·Memᴰ·not-nil,
+  Memᴰ·cast,
+  Memᴰ·append-left,
+  Memᴰ·append-right,
+}
 use mathlib.Core.Logic.{_⊎_, inl, inr, ⊎-elim}
 use native.Mathlib.Omega.{arith}
 use lib.Dec.{T, leb, ltb, ltb→lt, eqb, eqb→eq, not-T, T-not}
 use Rattle.grammar.specs.Moves.{Move, Edit, edits}
 use Rattle.grammar.specs.Pace.{Kept, Span, Cycle, Clean, Ascending, CleanCycles}
 use Rattle.grammar.specs.model.Tests.{both, left-of, right-of, one-of, or-left, or-right, equal-passes, every, every-all, all-every}
-use Rattle.grammar.specs.model.Sets.{all-at, all-by}
+use Rattle.grammar.specs.theory.Members.{all-at, all-by}
 use Rattle.grammar.specs.model.Reflects.{Reflects, le-test, lt-test, and-test, iff-test}
 
 -- ---- Kept tokens and edits

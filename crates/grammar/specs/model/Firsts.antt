@@ -11,7 +11,9 @@ use Rattle.grammar.specs.theory.Leftmost.{Der, der-refl, der-append, to-
 use Rattle.grammar.specs.theory.Closed.{ClosedFirst, closed-first, Begins}
 use Rattle.grammar.specs.model.Tests.{holds, holds-member, both, left-of, right-of, one-of, or-left, or-right, equal-passes}
 use Rattle.grammar.specs.model.Ruled.{Rule, RuleAt, Ranged, someRule, passing, some-rule}
-use Rattle.grammar.specs.model.Sets.{all-at, grown, grown-closed, grown-sound, nulls, null-sound, null-closed, rewritten}
+use Rattle.grammar.specs.theory.Members.{all-at}
+use Rattle.grammar.specs.theory.Rewriting.{rewritten}
+use Rattle.grammar.specs.model.Sets.{grown, grown-closed, grown-sound, nulls, null-sound, null-closed}
 
 -- A symbol that passes `begin` stands in the list behind symbols that pass `null`.
 unfoldable pub begins : (ℕ → Bool) → (ℕ → Bool) → List ℕ → Bool
@@ -83,7 +85,7 @@ module _ (rs : List Rule) (N t : ℕ) where
           let b = begins-say (holds (nulls rs N)) (starts t s) (i .right)
           (right-of (eqb x (i .left)) (begins (holds (nulls rs N)) (starts t s) (i .right)) (i .passes)) in
           let k = leads-list (begins-map (starts-leads s a) b) in
-          (k .0, subst (λ Y. Der (RuleAt rs) (Y ∷ []) (t ∷ k .0)) (sym e) (rewritten (i .rule) (k .1)))
+          (k .0, subst (λ Y. Der (RuleAt rs) (Y ∷ []) (t ∷ k .0)) (sym e) (rewritten _ (i .rule) (k .1)))
 
   pub first-sound : Terminal t → (α : List ℕ) → T (isFirst rs N α t) → First (RuleAt rs) α t
   unfolding isFirst

@@ -27,7 +27,9 @@ use Rattle.grammar.specs.model.Tests.{
   all-every,
 }
 use Rattle.grammar.specs.model.Ruled.{Rule, RuleAt, Ranged, someRule, passing, some-rule}
-use Rattle.grammar.specs.model.Sets.{all-at, all-map, grown, grown-closed, grown-sound, nulls, null-sound, null-closed, each-empty, opened}
+use Rattle.grammar.specs.theory.Members.{all-at, all-map}
+use Rattle.grammar.specs.theory.Rewriting.{opened}
+use Rattle.grammar.specs.model.Sets.{grown, grown-closed, grown-sound, nulls, null-sound, null-closed, each-empty}
 use Rattle.grammar.specs.model.Firsts.{begins, say-begins, starts, firsts, isFirst, first-sound, firsts-closed}
 
 -- B stands in the list with the token right behind it; e says that the token stands behind the list.

@@ -7,7 +7,7 @@ use mathlib.Core.List.{List, [], _∷_, _++_, append-assoc}
 use mathlib.Core.Logic.{inl, inr}
 use native.Mathlib.Omega.{arith}
 use lib.Dec.{T, leb}
-use Rattle.grammar.specs.Words.{START, END, Shaped, terminalCount, nonterminalCount, insertCost}
+use Rattle.grammar.specs.Words.{START, END, Shaped, terminalCount, nonterminalCount, insertCost, headerSize}
 use Rattle.grammar.specs.Derivation.{All, Reachable, Productive, NoneShared}
 use Rattle.grammar.specs.Cost.{Cheapest}
 use Rattle.grammar.specs.Grammar.{RuleOf, Affordable}
@@ -16,8 +16,8 @@ use Rattle.grammar.specs.theory.Pigeonhole.{range, range-member}
 use Rattle.grammar.specs.model.Tests.{left-of, right-of, every, every-all}
 use Rattle.grammar.specs.model.Reflects.{Reflects, le-test, each-in-test, iff-test}
 use Rattle.grammar.specs.model.Ruled.{Rule, RuleAt}
+use Rattle.grammar.specs.theory.Members.{all-at}
 use Rattle.grammar.specs.model.Sets.{
-  all-at,
   isProductive,
   productive-sound,
   productive-complete,
@@ -61,16 +61,16 @@ with-end {rs} {A} r =
 -- ---- The tests
 
 unfoldable pub allReachable : List ℕ → Bool
-unfolding every isReachable rulesOf range
+unfolding every isReachable rulesOf range nonterminalCount
 allReachable ws = every (isReachable (rulesOf ws) (nonterminalCount ws)) (range 64 (nonterminalCount ws))
 
 unfoldable pub allProductive : List ℕ → Bool
-unfolding every isProductive rulesOf range
+unfolding every isProductive rulesOf range nonterminalCount
 allProductive ws = every (isProductive (rulesOf ws) (nonterminalCount ws)) (range 64 (nonterminalCount ws))
 
 -- The costs of the nonterminals.
 unfoldable pub tableOf : List ℕ → List (Option ℕ)
-unfolding rounds rulesOf
+unfolding rounds rulesOf insertCost headerSize nonterminalCount
 tableOf ws = rounds (insertCost ws) (rulesOf ws) (nonterminalCount ws) (nonterminalCount ws)
 
 unfoldable pub isKnown : Option ℕ → Bool
@@ -78,19 +78,19 @@ isKnown none = false
 isKnown (some c) = true
 
 unfoldable pub costsReady : List ℕ → Bool
-unfolding tableOf isSettled rulesOf every isKnown costBy range
+unfolding tableOf isSettled rulesOf every isKnown costBy range insertCost headerSize nonterminalCount
 costsReady ws =
     let table = tableOf ws in
     isSettled (insertCost ws) (rulesOf ws) table
     && every (λ A. isKnown (costBy (insertCost ws) table A)) (range 64 (nonterminalCount ws))
 
 unfoldable pub allAffordable : List ℕ → Bool
-unfolding tableOf every costOf range
+unfolding tableOf every costOf range insertCost headerSize nonterminalCount
 allAffordable ws =
     let table = tableOf ws in every (λ A. leb (costOf (insertCost ws) table A) 60000) (range 64 (nonterminalCount ws))
 
 unfoldable pub noneShared : List ℕ → Bool
-unfolding isNoneShared rulesOf
+unfolding isNoneShared rulesOf terminalCount nonterminalCount
 noneShared ws = isNoneShared (rulesOf ws) (terminalCount ws) (nonterminalCount ws) (START ∷ END ∷ [])
 
 -- ---- Each test says exactly whether its condition is met

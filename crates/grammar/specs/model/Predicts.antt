@@ -11,9 +11,22 @@ use Rattle.grammar.specs.Derivation.{All, Reachable, Predict, NoneShared
 use Rattle.grammar.specs.theory.Leftmost.{Der, to-der, of-der}
 use Rattle.grammar.specs.theory.Closed.{closed-down, all-rest}
 use Rattle.grammar.specs.theory.Pigeonhole.{range}
-use Rattle.grammar.specs.model.Tests.{holds, both, left-of, right-of, one-of, or-left, or-right, equal-passes, every, every-all, all-every}
+use Rattle.grammar.specs.model.Tests.{
+  holds,
+  both,
+  left-of,
+  right-of,
+  one-of,
+  or-left,
+  or-right,
+  equal-passes,
+  every,
+  every-all,
+  all-every,
+}
 use Rattle.grammar.specs.model.Ruled.{Rule, RuleAt, Ranged, someRule, passing, some-rule}
-use Rattle.grammar.specs.model.Sets.{all-at, all-map, nulls, null-sound, nulls-complete, each-empty}
+use Rattle.grammar.specs.theory.Members.{all-at, all-map}
+use Rattle.grammar.specs.model.Sets.{nulls, null-sound, nulls-complete, each-empty}
 use Rattle.grammar.specs.model.Firsts.{begins, starts, firsts, isFirst, first-sound, first-complete}
 use Rattle.grammar.specs.model.Follows.{follows, isFollow, follow-sound, follow-complete}
 use Rattle.grammar.specs.model.Reflects.{Reflects, each-test, iff-test}

@@ -18,7 +18,7 @@ use Rattle.grammar.specs.model.Tests.{
   all-every,
   passes-or-not,
 }
-use Rattle.grammar.specs.model.Sets.{all-at, all-by}
+use Rattle.grammar.specs.theory.Members.{all-at, all-by}
 
 pub record Reflects (b : Bool) (P : Type 0) : Type 0 where
   pub says : T b → P

@@ -10,7 +10,7 @@ use Rattle.grammar.specs.Moves.{Move}
 use Rattle.grammar.specs.Run.{State, Limits, Pick, made, next, deletes, inserts, limit, Choice, Run}
 use Rattle.grammar.specs.declared.Refusal.{Refusal}
 use Rattle.grammar.specs.model.Tests.{none-some, some-same, left-of, right-of, every, every-all}
-use Rattle.grammar.specs.model.Sets.{all-map}
+use Rattle.grammar.specs.theory.Members.{all-map}
 use Rattle.grammar.specs.model.Decided.{Tests, Decided}
 use Rattle.grammar.specs.model.Choose.{choose, chosen}
 

@@ -1,16 +1,18 @@
 -- The sets of a list of rules, by rounds, each proved to be exactly the set by derivations: can be empty, derives a
 -- terminal string, reachable, FIRST.
 use Prim.Native.Nat.{ℕ, _+_, _≤_, _<_}
-use mathlib.Core.Path.{_≡_, refl, sym, ap, _∙_, subst}
+use mathlib.Core.Path.{_≡_, refl, sym, ap, subst}
 use mathlib.Core.Bool.{Bool, false, _&&_, _||_}
-use mathlib.Core.List.{List, [], _∷_, _++_, List·Memᴰ, List·Memᴰ·head, List·Memᴰ·tail, List·Memᴰ·not-nil, append-nil, append-assoc}
+use mathlib.Core.List.{List, [], _∷_, _++_, List·Memᴰ, List·Memᴰ·head, List·Memᴰ·tail, List·Memᴰ·not-nil}
 use mathlib.Core.Logic.{⊎-elim}
 use native.Mathlib.Omega.{arith}
 use lib.Dec.{T, eqb, eqb→eq, ltb, ltb→lt, lt→ltb}
 use Rattle.grammar.specs.Words.{START, RuleSymbol}
-use Rattle.grammar.specs.Derivation.{Rules, All, Derives, Reachable, Yields, Productive}
-use Rattle.grammar.specs.theory.Leftmost.{Der, der-refl, der-append, der-trans, to-der, of-der}
+use Rattle.grammar.specs.Derivation.{All, Derives, Reachable, Yields, Productive}
+use Rattle.grammar.specs.theory.Leftmost.{Der, der-refl, der-append, to-der, of-der}
 use Rattle.grammar.specs.theory.Closed.{ClosedUp, ClosedDown, closed-up, closed-down, all-rest, all-append}
+use Rattle.grammar.specs.theory.Members.{all-at, all-map, all-by}
+use Rattle.grammar.specs.theory.Rewriting.{rewritten, opened}
 use Rattle.grammar.specs.theory.Pigeonhole.{Distinct, range, range-length, range-member}
 use Rattle.grammar.specs.model.Tests.{
   holds,
@@ -30,19 +32,6 @@ use Rattle.grammar.specs.model.Tests.{
 }
 use Rattle.grammar.specs.model.Saturate.{saturate, saturate-sound, saturate-closed}
 use Rattle.grammar.specs.model.Ruled.{Rule, RuleAt, Ranged, someRule, passing, some-rule}
-
--- A member of a list of which all have a property has it.
-pub all-at : {P : ℕ → Type 0} {l : List ℕ} {x : ℕ} → All P l → List·Memᴰ x l → P x
-all-at {P} (All.also {x = y} h a) (List·Memᴰ·head e) = subst P (sym e) h
-all-at (All.also h a) (List·Memᴰ·tail m) = all-at a m
-
-pub all-map : {P Q : ℕ → Type 0} → ((x : ℕ) → P x → Q x) → {l : List ℕ} → All P l → All Q l
-all-map f All.nothing = All.nothing
-all-map f (All.also h a) = All.also (f _ h) (all-map f a)
-
-pub all-by : {P : ℕ → Type 0} (l : List ℕ) → ((x : ℕ) → List·Memᴰ x l → P x) → All P l
-all-by [] f = All.nothing
-all-by (x ∷ l) f = All.also (f x (List·Memᴰ·head refl)) (all-by l (λ y m. f y (List·Memᴰ·tail m)))
 
 -- The nonterminals, from no member on, after as many rounds as there are.
 unfoldable pub grown : (List ℕ → ℕ → Bool) → ℕ → List ℕ
@@ -117,15 +106,11 @@ pub each-empty : {rs : List Rule} {α : List ℕ} → All (λ X. Der (RuleAt rs)
 each-empty All.nothing = Der.done
 each-empty (All.also h a) = der-append _ h (each-empty a)
 
--- A right side in the place of its left side.
-pub rewritten : {rs : List Rule} {p A : ℕ} {β w : List ℕ} → RuleAt rs p A β → Der (RuleAt rs) β w → Der (RuleAt rs) (A ∷ []) w
-rewritten {rs} {β = β} {w = w} r d = Der.down r (subst (λ l. Der (RuleAt rs) l w) (sym (append-nil β)) d)
-
 module _ (rs : List Rule) (N : ℕ) where
   pub null-sound : (X : ℕ) → T (holds (nulls rs N) X) → Der (RuleAt rs) (X ∷ []) []
   unfolding nulls none-yet has
   null-sound X h =
-      up-sound none-yet rs N (λ Y. Der (RuleAt rs) (Y ∷ []) []) (λ p A β r a. rewritten r (each-empty a)) (λ Y k. absurd k) X h
+      up-sound none-yet rs N (λ Y. Der (RuleAt rs) (Y ∷ []) []) (λ p A β r a. rewritten _ r (each-empty a)) (λ Y k. absurd k) X h
 
   pub null-closed : (t : ℕ) → Ranged rs t N → ClosedUp (RuleAt rs) (λ X. T (holds (nulls rs N) X))
   unfolding nulls none-yet has
@@ -166,7 +151,7 @@ module _ (rs : List Rule) (N : ℕ) where
       closed : ClosedUp (RuleAt rs) (λ Y. (w : List ℕ) × Yields (RuleAt rs) (Y ∷ []) w)
       closed p A β r a =
           let k = each-yields a in
-          (k .0, record { terminals = k .1 .terminals; derives = of-der _ (rewritten r (to-der _ (k .1 .derives))) })
+          (k .0, record { terminals = k .1 .terminals; derives = of-der _ (rewritten _ r (to-der _ (k .1 .derives))) })
 
       base : (Y : ℕ) → T (ltb Y 64) → (w : List ℕ) × Yields (RuleAt rs) (Y ∷ []) w
       base Y h = (Y ∷ [], record { terminals = All.also (ltb→lt Y 64 h) All.nothing; derives = of-der _ (der-refl _ (Y ∷ [])) })
@@ -200,20 +185,6 @@ pub around : {X : ℕ} {l : List ℕ} → List·Memᴰ X l → Around X l
 around {X} (List·Memᴰ·head {xs = l} e) = record { front = []; rest = l; joined = ap (λ Y. Y ∷ l) (sym e) }
 around (List·Memᴰ·tail {x = Y} m) =
     let h = around m in record { front = Y ∷ h .front; rest = h .rest; joined = ap (λ l. Y ∷ l) (h .joined) }
-
--- A derivation inside a form.
-pub inside : (R : Rules) (φ ψ : List ℕ) {α β : List ℕ} → Der R α β → Der R (φ ++ (α ++ ψ)) (φ ++ (β ++ ψ))
-inside R φ ψ d = der-append R (der-refl R φ) (der-append R d (der-refl R ψ))
-
--- A form in which A stands, with A rewritten to b, X and c.
-pub opened : (R : Rules) (begin φ ψ b c : List ℕ) (X : ℕ) {p A : ℕ} {β : List ℕ} → Der R begin (φ ++ (A ∷ ψ)) → R p A β
-    → β ≡ b ++ (X ∷ c) → Der R begin ((φ ++ b) ++ (X ∷ (c ++ ψ)))
-opened R begin φ ψ b c X {β = β} d r e =
-    subst (λ w. Der R begin w) (ap (λ l. φ ++ (l ++ ψ)) e ∙ regroup)
-    (der-trans R d (der-append R (der-refl R φ) (Der.down r (der-refl R (β ++ ψ)))))
-  where
-    regroup : φ ++ ((b ++ (X ∷ c)) ++ ψ) ≡ (φ ++ b) ++ (X ∷ (c ++ ψ))
-    regroup = simp append-assoc
 
 module _ (rs : List Rule) (N : ℕ) where
   pub reachable-sound : (B : ℕ) → T (isReachable rs N B) → Reachable (RuleAt rs) (START ∷ []) B

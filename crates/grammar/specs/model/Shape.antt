@@ -24,6 +24,7 @@ use Rattle.grammar.specs.Words.{
   TerminalWords,
   RuleWords,
   Shaped,
+  headerSize,
 }
 use Rattle.grammar.specs.theory.Pigeonhole.{range}
 use Rattle.grammar.specs.model.Tests.{every}
@@ -64,6 +65,7 @@ marks-test T o c =
     from (Marks.unmarked a b) = inr (a, b)
 
 unfoldable pub isTerminalWords : List ℕ → ℕ → Bool
+unfolding insertCost reliability headerSize
 isTerminalWords ws t = (leb 1 (insertCost ws t) && leb (insertCost ws t) 1000) && leb (reliability ws t) 60000
 
 terminal-test : (ws : List ℕ) (t : ℕ) → Reflects (isTerminalWords ws t) (TerminalWords ws t)
@@ -75,7 +77,7 @@ terminal-test ws t =
     (λ r. ((r .cost-low, r .cost-high), r .reliability-high))
 
 unfoldable pub isRuleWords : List ℕ → ℕ → Bool
-unfolding rulePlace every isSymbol range
+unfolding rulePlace every isSymbol range headerSize terminalCount nonterminalCount rightSize
 isRuleWords ws p =
     (ltb (word ws (rulePlace ws p)) (nonterminalCount ws) && leb (rightSize ws p) 8)
     && every (λ i. isSymbol (terminalCount ws) (nonterminalCount ws) (word ws (rulePlace ws p + 2 + i))) (range 0 (rightSize ws p))
@@ -91,13 +93,13 @@ rule-test ws p =
 
 -- The header's ranges, then END's words, the other terminals', the rules, and the end.
 unfoldable pub isHeader : List ℕ → Bool
-unfolding areMarks
+unfolding areMarks terminalCount nonterminalCount ruleCount opening closing tickUnit
 isHeader ws =
     ((leb 1 (terminalCount ws) && leb (terminalCount ws) 64) && (leb 1 (nonterminalCount ws) && leb (nonterminalCount ws) 64))
     && ((leb 1 (ruleCount ws) && leb (ruleCount ws) 256) && (areMarks (terminalCount ws) (opening ws) (closing ws) && leb (tickUnit ws) 1))
 
 unfoldable pub isShaped : List ℕ → Bool
-unfolding isHeader every isTerminalWords range isRuleWords rulePlace
+unfolding isHeader every isTerminalWords range isRuleWords rulePlace insertCost reliability headerSize terminalCount ruleCount rightSize
 isShaped ws =
     (isHeader ws && (eqb (insertCost ws 0) 0 && eqb (reliability ws 0) 0))
     && ((every (isTerminalWords ws) (range 1 (terminalCount ws - 1)) && every (isRuleWords ws) (range 0 (ruleCount ws)))

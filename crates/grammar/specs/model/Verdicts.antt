@@ -3,12 +3,14 @@ use mathlib.Core.Path.{_≡_, refl, sym, subst}
 use mathlib.Core.Bool.{Bool, true, false}
 use mathlib.Core.Option.{Option, none, some}
 use mathlib.Core.List.{List, [], _∷_}
-use Prim.Native.Nat.{ℕ, _+_, _<_}
+use Prim.Native.Nat.{ℕ}
+use lib.ListN.{drop}
 use lib.Dec.{T}
-use Rattle.grammar.specs.Words.{START, END, Shaped, nonterminalCount}
-use Rattle.grammar.specs.Derivation.{Reachable, Productive, NoneShared}
-use Rattle.grammar.specs.Grammar.{RuleOf, Affordable, Meets, Verdict}
-use Rattle.grammar.specs.Refusals.{Lowest}
+use Rattle.grammar.specs.Words.{START, Shaped}
+use Rattle.grammar.specs.Derivation.{Reachable}
+use Rattle.grammar.specs.Grammar.{RuleOf, EachNonterminal, grammarConditions, Verdict}
+use Rattle.grammar.specs.Refusals.{Condition, Lowest}
+use Rattle.grammar.specs.theory.Conditions.{all-met, applies, passes}
 use Rattle.grammar.specs.declared.Refusal.{Refusal}
 use Rattle.grammar.specs.declared.Refusal.the-variants.{BadShape, Unreachable, NoString, TooCostly, SharedPredict}
 use Rattle.grammar.specs.model.Tests.{none-some, some-same}
@@ -64,70 +66,47 @@ verdictOf ws = byShape ws (isShaped ws)
 
 module _ (ws : List ℕ) (o : Option Refusal) where
   -- A test that fails: its refusal applies.
-  fails : {b : Bool} {P : Type 0} {r : Refusal} {rs : List Refusal} → Reflects b P → (Meets ws r → P) → b ≡ false → some (some r) ≡ some o
-      → Lowest (Meets ws) (r ∷ rs) o
-  fails {r = r} {rs = rs} t m q e =
-      subst (Lowest (Meets ws) (r ∷ rs)) (some-same e) (Lowest.applies (λ k. subst T q (t .said (m k))))
+  fails : {b : Bool} {c : Condition} {cs : List Condition} → Reflects b (c .holds) → b ≡ false → some (some (c .refusal)) ≡ some o
+      → Lowest (c ∷ cs) o
+  fails {c = c} {cs = cs} t q e = subst (Lowest (c ∷ cs)) (some-same e) (applies (λ k. subst T q (t .said k)))
 
   passed : {b : Bool} {P : Type 0} → Reflects b P → b ≡ true → P
   passed t q = t .says (subst T (sym q) tt)
 
-  is-shaped : Meets ws BadShape → Shaped ws
-  is-shaped (Meets.shaped s) = s
-
-  is-reachable : Meets ws Unreachable → (k : ℕ) → k < nonterminalCount ws → Reachable (RuleOf ws) (START ∷ []) (64 + k)
-  is-reachable (Meets.reachable f) = f
-
-  is-productive : Meets ws NoString → (k : ℕ) → k < nonterminalCount ws → Productive (RuleOf ws) (64 + k)
-  is-productive (Meets.productive f) = f
-
-  is-affordable : Meets ws TooCostly → (k : ℕ) → k < nonterminalCount ws → Affordable ws (64 + k)
-  is-affordable (Meets.affordable f) = f
-
-  is-unshared : Meets ws SharedPredict → NoneShared (RuleOf ws) (START ∷ END ∷ [])
-  is-unshared (Meets.none-shared n) = n
-
   module _ (s : Shaped ws) where
-    judge-shared : ((k : ℕ) → k < nonterminalCount ws → Reachable (RuleOf ws) (START ∷ []) (64 + k)) → (b : Bool) → noneShared ws ≡ b
-        → byShared b ≡ some o → Lowest (Meets ws) (SharedPredict ∷ []) o
+    judge-shared : EachNonterminal ws (Reachable (RuleOf ws) (START ∷ [])) → (b : Bool) → noneShared ws ≡ b → byShared b ≡ some o
+        → Lowest (drop 4 (grammarConditions ws)) o
     unfolding byShared
-    judge-shared r true q e =
-        subst (Lowest (Meets ws) (SharedPredict ∷ [])) (some-same e)
-        (Lowest.passes (Meets.none-shared (passed (shared-test ws s r) q)) Lowest.all-met)
-    judge-shared r false q e = fails (shared-test ws s r) is-unshared q e
+    judge-shared r true q e = subst (Lowest (drop 4 (grammarConditions ws))) (some-same e) (passes (passed (shared-test ws s r) q) all-met)
+    judge-shared r false q e = fails (shared-test ws s r) q e
 
-    judge-cost : ((k : ℕ) → k < nonterminalCount ws → Reachable (RuleOf ws) (START ∷ []) (64 + k)) → T (costsReady ws) → (b : Bool)
-        → allAffordable ws ≡ b → byCost ws b ≡ some o → Lowest (Meets ws) (TooCostly ∷ SharedPredict ∷ []) o
+    judge-cost : EachNonterminal ws (Reachable (RuleOf ws) (START ∷ [])) → T (costsReady ws) → (b : Bool) → allAffordable ws ≡ b
+        → byCost ws b ≡ some o → Lowest (drop 3 (grammarConditions ws)) o
     unfolding byCost
-    judge-cost r c true q e =
-        Lowest.passes (Meets.affordable (passed (affordable-test ws s c) q)) (judge-shared r (noneShared ws) refl e)
-    judge-cost r c false q e = fails (affordable-test ws s c) is-affordable q e
+    judge-cost r c true q e = passes (passed (affordable-test ws s c) q) (judge-shared r (noneShared ws) refl e)
+    judge-cost r c false q e = fails (affordable-test ws s c) q e
 
-    judge-ready : ((k : ℕ) → k < nonterminalCount ws → Reachable (RuleOf ws) (START ∷ []) (64 + k)) → (b : Bool) → costsReady ws ≡ b
-        → byReady ws b ≡ some o → Lowest (Meets ws) (TooCostly ∷ SharedPredict ∷ []) o
+    judge-ready : EachNonterminal ws (Reachable (RuleOf ws) (START ∷ [])) → (b : Bool) → costsReady ws ≡ b → byReady ws b ≡ some o
+        → Lowest (drop 3 (grammarConditions ws)) o
     unfolding byReady
     judge-ready r true q e = judge-cost r (subst T (sym q) tt) (allAffordable ws) refl e
     judge-ready r false q e = absurd (none-some e)
 
-    judge-productive : ((k : ℕ) → k < nonterminalCount ws → Reachable (RuleOf ws) (START ∷ []) (64 + k)) → (b : Bool) → allProductive ws ≡ b
-        → byProductive ws b ≡ some o → Lowest (Meets ws) (NoString ∷ TooCostly ∷ SharedPredict ∷ []) o
+    judge-productive : EachNonterminal ws (Reachable (RuleOf ws) (START ∷ [])) → (b : Bool) → allProductive ws ≡ b
+        → byProductive ws b ≡ some o → Lowest (drop 2 (grammarConditions ws)) o
     unfolding byProductive
-    judge-productive r true q e =
-        Lowest.passes (Meets.productive (passed (productive-test ws s) q)) (judge-ready r (costsReady ws) refl e)
-    judge-productive r false q e = fails (productive-test ws s) is-productive q e
+    judge-productive r true q e = passes (passed (productive-test ws s) q) (judge-ready r (costsReady ws) refl e)
+    judge-productive r false q e = fails (productive-test ws s) q e
 
-    judge-reachable : (b : Bool) → allReachable ws ≡ b → byReachable ws b ≡ some o
-        → Lowest (Meets ws) (Unreachable ∷ NoString ∷ TooCostly ∷ SharedPredict ∷ []) o
+    judge-reachable : (b : Bool) → allReachable ws ≡ b → byReachable ws b ≡ some o → Lowest (drop 1 (grammarConditions ws)) o
     unfolding byReachable
-    judge-reachable true q e =
-        let r = passed (reachable-test ws s) q in Lowest.passes (Meets.reachable r) (judge-productive r (allProductive ws) refl e)
-    judge-reachable false q e = fails (reachable-test ws s) is-reachable q e
+    judge-reachable true q e = let r = passed (reachable-test ws s) q in passes r (judge-productive r (allProductive ws) refl e)
+    judge-reachable false q e = fails (reachable-test ws s) q e
 
   judge-shape : (b : Bool) → isShaped ws ≡ b → byShape ws b ≡ some o → Verdict ws o
   unfolding byShape
-  judge-shape true q e =
-      let s = passed (shape-test ws) q in Lowest.passes (Meets.shaped s) (judge-reachable s (allReachable ws) refl e)
-  judge-shape false q e = fails (shape-test ws) is-shaped q e
+  judge-shape true q e = let s = passed (shape-test ws) q in passes s (judge-reachable s (allReachable ws) refl e)
+  judge-shape false q e = fails (shape-test ws) q e
 
   -- Where the model gives a verdict, it is the definitions'.
   pub judged : verdictOf ws ≡ some o → Verdict ws o

@@ -1,23 +1,33 @@
 -- The rules of the words as a list, and that the list says what the words say.
 use Prim.Native.Nat.{ℕ, zero, suc, _+_, _<_}
 use mathlib.Core.Path.{_≡_, sym, ap, _∙_, subst}
-use mathlib.Core.List.{List, [], _∷_, map}
+use mathlib.Core.List.{List, map}
 use native.Mathlib.Omega.{arith}
-use lib.ListN.{length, getD, drop, length-take}
-use lib.Seq.{getD-take, getD-drop}
-use Rattle.grammar.specs.Words.{terminalCount, nonterminalCount, ruleCount, leftSide, rightSide, rightSize, rulePlace, RuleSymbol, Shaped}
+use Rattle.grammar.specs.Words.{
+  terminalCount,
+  nonterminalCount,
+  ruleCount,
+  leftSide,
+  rightSide,
+  rightSize,
+  rulePlace,
+  RuleSymbol,
+  Shaped,
+  headerSize,
+}
 use Rattle.grammar.specs.Derivation.{Rules, All, Step, Derives, First, Follow, Reachable, Yields, Productive, Predict}
 use Rattle.grammar.specs.Cost.{Cheapest}
 use Rattle.grammar.specs.Grammar.{RuleOf}
+use Rattle.grammar.specs.theory.RightSides.{right-symbols}
 use Rattle.grammar.specs.theory.Pigeonhole.{range}
 use Rattle.grammar.specs.model.Ruled.{Rule, RuleAt, Ranged}
 
 unfoldable pub ruleOf : List ℕ → ℕ → Rule
-unfolding rulePlace rightSide
+unfolding rulePlace rightSide leftSide rightSize headerSize terminalCount
 ruleOf ws p = record { left = leftSide ws p; right = rightSide ws p }
 
 unfoldable pub rulesOf : List ℕ → List Rule
-unfolding ruleOf range
+unfolding ruleOf range ruleCount
 rulesOf ws = map (ruleOf ws) (range 0 (ruleCount ws))
 
 pub record Listed (f : ℕ → Rule) (a n p A : ℕ) (β : List ℕ) : Type 0 where
@@ -68,23 +78,8 @@ listed-rule ws p A β i =
 
 -- ---- The shape keeps symbols in range
 
--- What holds at each index holds of all.
-pub all-index : {P : ℕ → Type 0} (l : List ℕ) → ((i : ℕ) → i < length l → P (getD l i 0)) → All P l
-all-index [] f = All.nothing
-all-index (x ∷ l) f = All.also (f 0 (omega arith)) (all-index l (λ i h. f (suc i) (omega arith)))
-
-pub right-symbols : (ws : List ℕ) → Shaped ws → (p : ℕ) → p < ruleCount ws
-    → All (RuleSymbol (terminalCount ws) (nonterminalCount ws)) (rightSide ws p)
-unfolding rightSide
-right-symbols ws s p h =
-    all-index (rightSide ws p)
-    (λ i l.
-    let k : i < rightSize ws p = omega (arith, length-take (rightSize ws p) (drop (rulePlace ws p + 2) ws)) in
-    subst (RuleSymbol (terminalCount ws) (nonterminalCount ws))
-    (sym (getD-take (rightSize ws p) (drop (rulePlace ws p + 2) ws) i 0 k ∙ getD-drop (rulePlace ws p + 2) ws i 0))
-    (s .rules p h .symbols i k))
-
 pub ranged : (ws : List ℕ) → Shaped ws → Ranged (rulesOf ws) (terminalCount ws) (nonterminalCount ws)
+unfolding leftSide
 ranged ws s =
     record {
       terminals = s .terminals-high;

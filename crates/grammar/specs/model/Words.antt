@@ -5,7 +5,7 @@ use mathlib.Core.Bool.{Bool, _&&_, _||_}
 use mathlib.Core.List.{List}
 use mathlib.Core.Logic.{⊎-elim}
 use lib.Dec.{T, leb, leb→le, ltb, ltb→lt, eqb, eqb→eq, lt→ltb}
-use Rattle.grammar.specs.Words.{END, Shaped, terminalCount, nonterminalCount, insertCost, reliability}
+use Rattle.grammar.specs.Words.{END, Shaped, terminalCount, nonterminalCount, insertCost, reliability, headerSize}
 use Rattle.grammar.specs.Cost.{SymbolCost}
 use Rattle.grammar.specs.Grammar.{grammarOf, RuleOf, Reliable}
 use Rattle.grammar.specs.model.Tests.{holds, left-of, right-of, one-of, or-left, or-right, equal-passes}
@@ -23,11 +23,12 @@ isInner N X = ltb X 64 || (leb 64 X && ltb X (64 + N))
 
 -- A cost is strictly below the reliability of token t, END's being unlimited.
 unfoldable pub isBelow : List ℕ → ℕ → ℕ → Bool
+unfolding reliability headerSize
 isBelow ws c t = eqb t END || ltb c (reliability ws t)
 
 -- The tests of the words' grammar.
 unfoldable pub testsOf : List ℕ → Tests
-unfolding rulesOf nulls tableOf begins holds starts firsts isInner costOf isBelow
+unfolding rulesOf nulls tableOf begins holds starts firsts isInner costOf isBelow nonterminalCount insertCost headerSize terminalCount
 testsOf ws =
     let rs = rulesOf ws in
     let N = nonterminalCount ws in

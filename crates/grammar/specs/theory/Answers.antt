@@ -1,86 +1,53 @@
 -- The parser's answer and its two buffers are determined by the words, the log and the lengths of the buffers; so are the
 -- report and its buffers, by these and the ticks.
-use Prim.Native.Nat.{ℕ, suc, _<_}
+use Prim.Native.Nat.{ℕ}
 use mathlib.Core.Path.{_≡_, refl, sym, ap, _∙_, subst}
 use mathlib.Core.List.{List, [], _∷_}
 use mathlib.Core.Option.{Option, none, some}
 use native.Mathlib.Omega.{arith}
-use lib.ListN.{length, getD}
 use Rattle.grammar.specs.Words.{tickUnit, nonterminalCount}
 use Rattle.grammar.specs.Derivation.{All}
-use Rattle.grammar.specs.Grammar.{grammarOf, Meets}
+use Rattle.grammar.specs.Grammar.{grammarOf, grammarConditions, Verdict}
 use Rattle.grammar.specs.Moves.{Move}
-use Rattle.grammar.specs.Run.{LogFits, ParseMeets, parseRefusals, Settled, RunOf, Counts, Parsed}
-use Rattle.grammar.specs.Refusals.{Lowest, Outcome, given, refused}
-use Rattle.grammar.specs.Pace.{PaceMeets, Reports, Reported, reportOf}
+use Rattle.grammar.specs.Run.{LogFits, runConditions, Settled, RunOf, Parses, ParsedAsking, answered, countsOf}
+use Rattle.grammar.specs.Refusals.{Condition, _unless_, Lowest, Outcome, given, refused}
+use Rattle.grammar.specs.Pace.{Reports, Reported, reportOf}
 use Rattle.grammar.specs.declared.Refusal.{Refusal}
 use Rattle.grammar.specs.declared.Refusal.the-variants.{BadLog}
 use Rattle.grammar.specs.declared.Report.{Report}
-use Rattle.grammar.specs.theory.Good.{Accepted, accepted-by, good-words}
+use Rattle.grammar.specs.declared.Counts.{Counts}
+use Rattle.grammar.specs.theory.Members.{all-index}
+use Rattle.grammar.specs.theory.Good.{Accepted, accepted, good-words}
 use Rattle.grammar.specs.theory.States.{LogToken, live-start}
 use Rattle.grammar.specs.theory.Cycles.{clean-cycles-unique}
-use Rattle.grammar.specs.theory.Determined.{SameRun, run-determined, lowest-unique, some-none}
+use Rattle.grammar.specs.theory.Determined.{SameRun, run-determined}
+use Rattle.grammar.specs.theory.Conditions.{Held, held, held-both, lowest-last, lowest-unique, some-none}
 
 -- ---- What it means that none of 5 to 10 applies
-
-zero-one : _≡_ {A = ℕ} 0 1 → ⊥
-zero-one e = omega arith
-
--- The grammar check's conditions do not speak of refusal 10.
-meets-not-log : {ws : List ℕ} {r : Refusal} → Meets ws r → r ≡ BadLog → ⊥
-meets-not-log (Meets.shaped s) e = zero-one (cc)
-meets-not-log (Meets.reachable s) e = zero-one (cc)
-meets-not-log (Meets.productive s) e = zero-one (cc)
-meets-not-log (Meets.affordable s) e = zero-one (cc)
-meets-not-log (Meets.none-shared s) e = zero-one (cc)
 
 -- The words are accepted, and the log fits.
 pub record Admitted (ws log : List ℕ) : Type 0 where
   pub words : Accepted ws
   pub fits : LogFits ws log
 
-parse-grammar : {ws log : List ℕ} {r : Refusal} → ParseMeets ws log r → (r ≡ BadLog → ⊥) → Meets ws r
-parse-grammar (ParseMeets.grammar m) n = m
-parse-grammar (ParseMeets.fits f) n = absurd (n refl)
+-- Where none of 5 to 10 applies, the words are accepted,
+pub verdict-held : {Asked : Type 0} {ws log : List ℕ} → Lowest (runConditions ws log Asked) none → Verdict ws none
+verdict-held {Asked} {ws} {log} l = held-both (grammarConditions ws) ((BadLog unless (LogFits ws log × Asked)) ∷ []) l .0
 
-parse-fits : {ws log : List ℕ} {r : Refusal} → ParseMeets ws log r → r ≡ BadLog → LogFits ws log
-parse-fits (ParseMeets.grammar m) e = absurd (meets-not-log m e)
-parse-fits (ParseMeets.fits f) e = f
+-- and the log fits, with what else is asked.
+pub log-held : {Asked : Type 0} {ws log : List ℕ} → Lowest (runConditions ws log Asked) none → LogFits ws log × Asked
+unfolding Held
+log-held {Asked} {ws} {log} l =
+    held (held-both (grammarConditions ws) ((BadLog unless (LogFits ws log × Asked)) ∷ []) l .1) .0
 
-pace-parse : {ws log ticks : List ℕ} {r : Refusal} → PaceMeets ws log ticks r → ParseMeets ws log r
-pace-parse (PaceMeets.grammar m) = ParseMeets.grammar m
-pace-parse (PaceMeets.fits f e) = ParseMeets.fits f
-
-all-parse : {ws log ticks : List ℕ} {rs : List Refusal} {o : Option Refusal} → Lowest (PaceMeets ws log ticks) rs o → o ≡ none
-    → Lowest (ParseMeets ws log) rs none
-all-parse Lowest.all-met e = Lowest.all-met
-all-parse (Lowest.applies n) e = absurd (some-none e refl)
-all-parse (Lowest.passes m l) e = Lowest.passes (pace-parse m) (all-parse l e)
-
--- Where none of 5 to 10 applies, the words are accepted and the log fits.
-pub admitted : {ws log : List ℕ} → Lowest (ParseMeets ws log) parseRefusals none → Admitted ws log
-admitted
-    (Lowest.passes a (Lowest.passes b (Lowest.passes c (Lowest.passes d (Lowest.passes e (Lowest.passes f Lowest.all-met)))))) =
-    record {
-      words =
-          accepted-by
-          (parse-grammar a (λ h. zero-one (cc)))
-          (parse-grammar b (λ h. zero-one (cc)))
-          (parse-grammar c (λ h. zero-one (cc)))
-          (parse-grammar d (λ h. zero-one (cc)))
-          (parse-grammar e (λ h. zero-one (cc)));
-      fits = parse-fits f refl;
-    }
-
-all-by-place : {P : ℕ → Type 0} (l : List ℕ) → ((i : ℕ) → i < length l → P (getD l i 0)) → All P l
-all-by-place [] f = All.nothing
-all-by-place (x ∷ l) f = All.also (f 0 (omega arith)) (all-by-place l (λ i h. f (suc i) (omega arith)))
+pub admitted : {Asked : Type 0} {ws log : List ℕ} → Lowest (runConditions ws log Asked) none → Admitted ws log
+admitted l = record { words = accepted (verdict-held l); fits = log-held l .0 }
 
 -- The tokens of such a log are terminals other than END.
 pub log-tokens : {ws log : List ℕ} → Admitted ws log → All LogToken log
 log-tokens {log = log} a =
     let top = a .words .shaped .terminals-high in
-    all-by-place log (λ i l. (a .fits .low i l, omega (arith, a .fits .high i l)))
+    all-index log (λ i l. (a .fits .low i l, omega (arith, a .fits .high i l)))
 
 -- ---- The parse
 
@@ -97,9 +64,9 @@ given-one : {A : Type 0} {o q : Option Refusal} {r w : Refusal} → o ≡ q → 
 given-one e f g = let h = sym f ∙ e ∙ g in cc
 
 -- What a run comes to is one, where runs are.
-settled-unique : {Met : Refusal → Type 0} {rs : List Refusal} {Runs : List Move → Option Refusal → Type 0} {o q : Outcome (List Move)}
-    → (Lowest Met rs none → (ms ns : List Move) (x y : Option Refusal) → Runs ms x → Runs ns y → SameRun ms ns x y)
-    → Settled Met rs Runs o → Settled Met rs Runs q → o ≡ q
+settled-unique : {cs : List Condition} {Runs : List Move → Option Refusal → Type 0} {o q : Outcome (List Move)}
+    → (Lowest cs none → (ms ns : List Move) (x y : Option Refusal) → Runs ms x → Runs ns y → SameRun ms ns x y)
+    → Settled cs Runs o → Settled cs Runs q → o ≡ q
 settled-unique f (Settled.whole {ms = ms} l r) (Settled.whole {ms = ns} k s) =
     let e = f l ms ns none none r s .moves in cc
 settled-unique f (Settled.whole l r) (Settled.before k) = absurd (some-none refl (lowest-unique l k))
@@ -114,27 +81,47 @@ settled-unique f (Settled.within l r) (Settled.before k) = absurd (some-none ref
 settled-unique f (Settled.within {ms = ms} {r = v} l r) (Settled.within {ms = ns} {r = w} k s) =
     given-one (f l ms ns (some v) (some w) r s .outcome) refl refl
 
--- The parser's answer and its buffers are one.
-pub parsed-unique : {ws log : List ℕ} {editRoom ruleRoom : ℕ} {a b : Outcome Counts} {x y u v : List ℕ}
-    → Parsed ws log editRoom ruleRoom a x u → Parsed ws log editRoom ruleRoom b y v → (a ≡ b) × (x ≡ y) × (u ≡ v)
-parsed-unique p q =
+-- What a log comes to and leaves is one.
+pub parses-unique : {Asked : Type 0} {ws log : List ℕ} {editRoom ruleRoom : ℕ} {o q : Outcome (List Move)} {x y u v : List ℕ}
+    → Parses Asked ws log editRoom ruleRoom o x u → Parses Asked ws log editRoom ruleRoom q y v → (o ≡ q) × (x ≡ y) × (u ≡ v)
+parses-unique p q =
     let e = settled-unique (λ l ms ns o w r s. runs-determined (admitted l) r s) (p .settled) (q .settled) in
-    (cc (p .answers, q .answers), cc (p .leaves-edits, q .leaves-edits), cc (p .leaves-rules, q .leaves-rules))
+    (e, cc (p .leaves-edits, q .leaves-edits), cc (p .leaves-rules, q .leaves-rules))
+
+-- The parser's answer and its buffers are one.
+pub parsed-unique : {Asked : Type 0} {ws log : List ℕ} {editRoom ruleRoom : ℕ} {a b : Outcome Counts} {x y u v : List ℕ}
+    → ParsedAsking Asked ws log editRoom ruleRoom a x u → ParsedAsking Asked ws log editRoom ruleRoom b y v
+    → (a ≡ b) × (x ≡ y) × (u ≡ v)
+parsed-unique p q =
+    let e = parses-unique (p .parses) (q .parses) in
+    (p .answers ∙ ap answered (e .0) ∙ sym (q .answers), e .1, e .2)
+
+-- What is asked besides may be said otherwise.
+pub parses-asking : {A B : Type 0} {ws log : List ℕ} {editRoom ruleRoom : ℕ} {o : Outcome (List Move)} {x u : List ℕ} → (A → B) → (B → A)
+    → Parses A ws log editRoom ruleRoom o x u → Parses B ws log editRoom ruleRoom o x u
+parses-asking {A} {B} {ws} {log} {editRoom} {ruleRoom} f g p =
+    record { settled = go (p .settled); leaves-edits = p .leaves-edits; leaves-rules = p .leaves-rules }
+  where
+    asked : {q : Option Refusal} → Lowest (runConditions ws log A) q → Lowest (runConditions ws log B) q
+    asked l = lowest-last (grammarConditions ws) BadLog (λ h. (h .0, f (h .1))) (λ h. (h .0, g (h .1))) l
+
+    go : {q : Outcome (List Move)} → Settled (runConditions ws log A) (RunOf ws log editRoom ruleRoom) q
+        → Settled (runConditions ws log B) (RunOf ws log editRoom ruleRoom) q
+    go (Settled.whole l r) = Settled.whole (asked l) r
+    go (Settled.before l) = Settled.before (asked l)
+    go (Settled.within l r) = Settled.within (asked l) r
 
 -- ---- The report
 
-reports-unique : {ws ticks : List ℕ} {o : Outcome (List Move)} {a b : Outcome Report} → Reports ws ticks o a → Reports ws ticks o b → a ≡ b
-reports-unique {ws = ws} {ticks = ticks} (Reports.paced c) (Reports.paced d) =
-    ap (λ cs. given (reportOf (tickUnit ws) ticks cs)) (clean-cycles-unique c d)
+reports-unique : {ws ticks : List ℕ} {o : Outcome (List Move)} {a b : Outcome (Report × Counts)} → Reports ws ticks o a
+    → Reports ws ticks o b → a ≡ b
+reports-unique {ws = ws} {ticks = ticks} (Reports.paced {ms = ms} c) (Reports.paced d) =
+    ap (λ cs. given (reportOf (tickUnit ws) ticks cs, countsOf ms)) (clean-cycles-unique c d)
 reports-unique Reports.unpaced Reports.unpaced = refl
 
 -- The report's answer and its buffers are one.
-pub reported-unique : {ws log ticks : List ℕ} {editRoom ruleRoom : ℕ} {a b : Outcome Report} {x y u v : List ℕ}
+pub reported-unique : {ws log ticks : List ℕ} {editRoom ruleRoom : ℕ} {a b : Outcome (Report × Counts)} {x y u v : List ℕ}
     → Reported ws log ticks editRoom ruleRoom a x u → Reported ws log ticks editRoom ruleRoom b y v → (a ≡ b) × (x ≡ y) × (u ≡ v)
 reported-unique {ws = ws} {ticks = ticks} {a = a} p q =
-    let e =
-    settled-unique (λ l ms ns o w r s. runs-determined (admitted (all-parse l refl)) r s) (p .settled) (q .settled) in (
-      reports-unique (subst (λ o. Reports ws ticks o a) e (p .reports)) (q .reports),
-      cc (p .leaves-edits, q .leaves-edits),
-      cc (p .leaves-rules, q .leaves-rules),
-    )
+    let e = parses-unique (p .parses) (q .parses) in
+    (reports-unique (subst (λ o. Reports ws ticks o a) (e .0) (p .reports)) (q .reports), e .1, e .2)

@@ -16,7 +16,7 @@ use Rattle.grammar.specs.Run.{Pick, Choice, State, Limits, Run, started,
 use Rattle.grammar.specs.declared.Refusal.{Refusal}
 use Rattle.grammar.specs.theory.Leftmost.{to-der}
 use Rattle.grammar.specs.theory.Closed.{closed-down}
-use Rattle.grammar.specs.theory.Good.{Inner, Good}
+use Rattle.grammar.specs.theory.Good.{Good, known-not-end}
 use Rattle.grammar.specs.theory.Forms.{Ended, At, ended-nonempty, at-down}
 use Rattle.grammar.specs.theory.Reach.{first-append}
 use Rattle.grammar.specs.theory.Leads.{Budget, budget-full, budget-some, budget-expand, budget-drop}
@@ -83,11 +83,10 @@ module _ (G : Grammar) (N R : ℕ) (good : Good G N R) where
   end-not-inside : {p A : ℕ} {β : List ℕ} → G .rules p A β → First (G .rules) β END → ⊥
   end-not-inside {p = p} {A = A} {β = β} r f =
       outside
-      (closed-down (G .rules) (Inner N) (λ q B γ s h. good .symbols q B γ s) (to-der (G .rules) (f .begins)) (good .symbols p A β r))
+      (closed-down (G .rules) (G .known) (λ q B γ s h. good .symbols q B γ s) (to-der (G .rules) (f .begins)) (good .symbols p A β r))
     where
-      outside : {γ : List ℕ} → All (Inner N) (END ∷ γ) → ⊥
-      outside (All.also (Inner.terminal a b) c) = omega arith
-      outside (All.also (Inner.nonterminal a b) c) = omega arith
+      outside : {γ : List ℕ} → All (G .known) (END ∷ γ) → ⊥
+      outside (All.also k c) = known-not-end good k refl
 
   -- Where the token may take k more expands, leads down the stack have at most k.
   credit-budget : {t k : ℕ} {σ ρ : List ℕ} → Terminal t → Credit G N σ (t ∷ ρ) k → Budget (G .rules) t σ k
@@ -166,14 +165,14 @@ module _ (G : Grammar) (N R : ℕ) (good : Good G N R) where
       (sym (credit-fresh n b))
       (omega (arith, length-append (deletes p (take j (t ∷ ρ)) ++ inserts (p + j) (take i σ)) ms))
 
-  live-step : {σ ρ : List ℕ} {x : Pick} (ms : List Move) (p c l k : ℕ) → Choice G σ ρ x → Live G N σ ρ → Credit G N σ ρ k
+  live-step : {σ ρ : List ℕ} {x : Pick} (ms : List Move) (p c l k : ℕ) → Choice G σ ρ x → Live G σ ρ → Credit G N σ ρ k
       → ((n : ℕ) → Credit G N (next (state σ p ρ c l) x .stack) (next (state σ p ρ c l) x .rest) n
       → length ms ≤ movesLeft N R n (next (state σ p ρ c l) x .stack) (next (state σ p ρ c l) x .rest))
       → length (made (state σ p ρ c l) x ++ ms) ≤ movesLeft N R k σ ρ
   live-step ms p c l k d (Live.running s q a) b f = bounded-step ms p c l k d q a b f
   live-step ms p c l k d (Live.over e g) b f = absurd (choice-some d g)
 
-  path-bounded : {L : Limits} {s u : State} {ms : List Move} → Path G L s ms u → (k : ℕ) → Live G N (s .stack) (s .rest)
+  path-bounded : {L : Limits} {s u : State} {ms : List Move} → Path G L s ms u → (k : ℕ) → Live G (s .stack) (s .rest)
       → Credit G N (s .stack) (s .rest) k → length ms ≤ movesLeft N R k (s .stack) (s .rest)
   path-bounded Path.still k v b = omega arith
   path-bounded (Path.onward {s = s} {ms = ms} c l q) k v b =

@@ -10,12 +10,12 @@ use native.Mathlib.Omega.{arith}
 use native.Mathlib.Decide.{decLt}
 use lib.ListN.{length, getD, length-append}
 use lib.Seq.{take-at, getD-at}
-use Rattle.grammar.specs.Words.{END, Terminal}
+use Rattle.grammar.specs.Words.{RuleSymbol, END, Terminal}
 use Rattle.grammar.specs.Derivation.{Rules, Derives, All, First, CanBeEmpty, Predict}
 use Rattle.grammar.specs.Cost.{Cheapest, SymbolCost, ListCost}
 use Rattle.grammar.specs.Grammar.{Grammar}
 use Rattle.grammar.specs.Run.{Plausible, Hit, Pick, Choice, expanding, correcting}
-use Rattle.grammar.specs.theory.Good.{Inner, Good}
+use Rattle.grammar.specs.theory.Good.{Good}
 use Rattle.grammar.specs.theory.Forms.{Ended, not-terminal, ended-front}
 use Rattle.grammar.specs.theory.Reach.{first-append, first-down, first-past}
 
@@ -122,18 +122,21 @@ module _ (G : Grammar) (N R : ℕ) (good : Good G N R) where
 
   -- ---- "An r always exists, since END fits at the bottom."
 
-  symbol-cost : {X : ℕ} → Inner N X → (c : ℕ) × SymbolCost (G .rules) (G .price) X c
-  symbol-cost {X} (Inner.terminal a b) = (G .price X, SymbolCost.terminal b refl)
-  symbol-cost {X} (Inner.nonterminal a b) = let h = good .costs X a b in (h .0, SymbolCost.nonterminal a (h .1))
+  symbol-cost : {X : ℕ} → G .known X → (c : ℕ) × SymbolCost (G .rules) (G .price) X c
+  symbol-cost {X} k = go (good .ranged X k)
+    where
+      go : RuleSymbol 64 N X → (c : ℕ) × SymbolCost (G .rules) (G .price) X c
+      go (RuleSymbol.terminal a b) = (G .price X, SymbolCost.terminal b refl)
+      go (RuleSymbol.nonterminal a b) = let h = good .costs X a k in (h .0, SymbolCost.nonterminal a (h .1))
 
   -- What may stand in a rule has a cost.
-  pub list-cost : {φ : List ℕ} → All (Inner N) φ → (c : ℕ) × ListCost (G .rules) (G .price) φ c
+  pub list-cost : {φ : List ℕ} → All (G .known) φ → (c : ℕ) × ListCost (G .rules) (G .price) φ c
   list-cost All.nothing = (0, ListCost.nothing)
   list-cost (All.also h a) =
       let one = symbol-cost h in let rest = list-cost a in (one .0 + rest .0, ListCost.also (one .1) (rest .1) refl)
 
   -- At END, to insert all that stands above the bottom is plausible.
-  pub end-fits : {σ : List ℕ} → Ended (Inner N) σ → (i : ℕ) × Plausible G σ END i
+  pub end-fits : {σ : List ℕ} → Ended (G .known) σ → (i : ℕ) × Plausible G σ END i
   end-fits e =
       let parts = ended-front e in
       let φ = parts .0 in

@@ -49,7 +49,7 @@ module _ (G : Grammar) (N R : ℕ) (good : Good G N R) where
   not-in-error : {t : ℕ} {σ ρ : List ℕ} → Terminal t → Der (G .rules) σ (t ∷ ρ) → First (G .rules) σ t
   not-in-error {ρ = ρ} l d = record { token = l; rest = ρ; begins = of-der (G .rules) d }
 
-  derives-next : {σ ρ : List ℕ} {x : Pick} (p k l : ℕ) → Choice G σ ρ x → Live G N σ ρ → Der (G .rules) σ ρ
+  derives-next : {σ ρ : List ℕ} {x : Pick} (p k l : ℕ) → Choice G σ ρ x → Live G σ ρ → Der (G .rules) σ ρ
       → Der (G .rules) (next (state σ p ρ k l) x .stack) (next (state σ p ρ k l) x .rest)
   unfolding next
   derives-next p k l c (Live.over e f) d = absurd (choice-some c f)
@@ -59,7 +59,7 @@ module _ (G : Grammar) (N R : ℕ) (good : Good G N R) where
   derives-next p k l (Choice.pass f n) (Live.running s q a) d = drop-derives (f .token) n d
   derives-next p k l (Choice.correct n x) (Live.running s q a) d = absurd (n (not-in-error (token-terminal q) d))
 
-  edits-next : {σ ρ : List ℕ} {x : Pick} (ms : List Move) (p k l : ℕ) → Choice G σ ρ x → Live G N σ ρ → Der (G .rules) σ ρ
+  edits-next : {σ ρ : List ℕ} {x : Pick} (ms : List Move) (p k l : ℕ) → Choice G σ ρ x → Live G σ ρ → Der (G .rules) σ ρ
       → edits ms ≡ [] → edits (made (state σ p ρ k l) x ++ ms) ≡ []
   unfolding made edits
   edits-next ms p k l c (Live.over e f) d h = absurd (choice-some c f)
@@ -68,7 +68,7 @@ module _ (G : Grammar) (N R : ℕ) (good : Good G N R) where
   edits-next ms p k l (Choice.pass f n) (Live.running s q a) d h = h
   edits-next ms p k l (Choice.correct n x) (Live.running s q a) d h = absurd (n (not-in-error (token-terminal q) d))
 
-  unedited : {L : Limits} {s : State} {ms : List Move} {o : Option Refusal} → Run G L s ms o → Live G N (s .stack) (s .rest)
+  unedited : {L : Limits} {s : State} {ms : List Move} {o : Option Refusal} → Run G L s ms o → Live G (s .stack) (s .rest)
       → Der (G .rules) (s .stack) (s .rest) → edits ms ≡ []
   unfolding edits
   unedited (Run.ended e f) v d = refl

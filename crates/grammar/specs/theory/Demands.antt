@@ -12,16 +12,17 @@ use lib.ListN.{length, getD, take}
 use Rattle.grammar.specs.Words.{START, END, nonterminalCount, ruleCount, rightSize, reliability}
 use Rattle.grammar.specs.Derivation.{Rules, Step, Derives, All, First, Follow, CanBeEmpty, Yields}
 use Rattle.grammar.specs.Cost.{ListCost}
-use Rattle.grammar.specs.Grammar.{RuleOf, Reliable, Verdict, grammarOf}
+use Rattle.grammar.specs.Grammar.{RuleOf, Reliable, Verdict, grammarOf, startOverEnd}
 use Rattle.grammar.specs.Buffers.{filled}
 use Rattle.grammar.specs.Moves.{Move, Edit, edits, editWords, repaired, passed, placed}
 use Rattle.grammar.specs.Run.{Plausible, Hit, Choice, expanding, dropping, correcting}
-use Rattle.grammar.specs.Run.{State, Limits, started, LogFits, RunOf, Counts, Parsed}
+use Rattle.grammar.specs.Run.{State, Limits, started, LogFits, RunOf, Parsed}
 use Rattle.grammar.specs.Refusals.{Outcome, given}
 use Rattle.grammar.specs.File.{FileRead}
 use Rattle.grammar.specs.Pace.{Reported}
 use Rattle.grammar.specs.declared.Refusal.{Refusal}
 use Rattle.grammar.specs.declared.Report.{Report}
+use Rattle.grammar.specs.declared.Counts.{Counts}
 use Rattle.grammar.specs.theory.Good.{Good, accepted, good-within, opens-with-start, eight-bounds}
 use Rattle.grammar.specs.theory.States.{LogToken}
 use Rattle.grammar.specs.theory.Paths.{Path}
@@ -33,6 +34,7 @@ use Rattle.grammar.specs.theory.Chosen as Chosen
 use Rattle.grammar.specs.theory.Token as Token
 use Rattle.grammar.specs.theory.Determined as Determined
 use Rattle.grammar.specs.theory.Answers as Answers
+use Rattle.grammar.specs.theory.Conditions.{lowest-unique}
 use Rattle.grammar.specs.theory.Repaired as Repaired
 use Rattle.grammar.specs.theory.Filled as Filling
 use Rattle.grammar.specs.theory.Filled.{Filled}
@@ -59,7 +61,7 @@ no-left-recursion ws v A α γ (Step.later s) d = no-step s refl
 
 -- A nonterminal that can be empty has no token in both its FIRST and its FOLLOW.
 pub first-or-follow : (ws : List ℕ) → Verdict ws none → (A t : ℕ) → CanBeEmpty (RuleOf ws) (A ∷ []) → First (RuleOf ws) (A ∷ []) t
-    → Follow (RuleOf ws) (START ∷ END ∷ []) A t → ⊥
+    → Follow (RuleOf ws) startOverEnd A t → ⊥
 first-or-follow ws v A t c f w =
     let a = accepted v in
     Predictive.first-or-follow (grammarOf ws) (nonterminalCount ws) 8 (good-within ws a 8 (eight-bounds ws a)) c f w
@@ -98,7 +100,7 @@ module _ (ws log : List ℕ) (passes : Verdict ws none) (fits : LogFits ws log) 
       Exists.run-exists (grammarOf ws) (nonterminalCount ws) 8 good (decFirstOf ws (accepted passes)) (decReliableOf ws) _ tokens
 
   -- "An r always exists": in every state u that a run comes to before its end there is a hit.
-  pub hit-exists : {L : Limits} {ms : List Move} {u : State} → Path (grammarOf ws) L (started (START ∷ END ∷ []) log) ms u
+  pub hit-exists : {L : Limits} {ms : List Move} {u : State} → Path (grammarOf ws) L (started startOverEnd log) ms u
       → (u .rest ≡ [] → ⊥) → (j i : ℕ) × Hit (grammarOf ws) (u .stack) (u .rest) j i
   hit-exists path more =
       Exists.hit-on-path (grammarOf ws) (nonterminalCount ws) 8 good (decFirstOf ws (accepted passes)) (decReliableOf ws) tokens path more
@@ -202,7 +204,7 @@ nothing-moved-in-error ws = (
 
 -- The verdict is one.
 pub verdict-unique : {ws : List ℕ} {o q : Option Refusal} → Verdict ws o → Verdict ws q → o ≡ q
-verdict-unique v w = Determined.verdict-unique v w
+verdict-unique v w = lowest-unique v w
 
 -- The reader's answer and its buffer are one.
 pub file-read-unique : {bytes : List ℕ} {room : ℕ} {a b : Outcome ℕ} {x y : List ℕ} → FileRead bytes room a x
@@ -215,6 +217,6 @@ pub parsed-unique : {ws log : List ℕ} {editRoom ruleRoom : ℕ} {a b : Outcome
 parsed-unique p q = Answers.parsed-unique p q
 
 -- The report's answer and its two buffers are one.
-pub reported-unique : {ws log ticks : List ℕ} {editRoom ruleRoom : ℕ} {a b : Outcome Report} {x y u v : List ℕ}
+pub reported-unique : {ws log ticks : List ℕ} {editRoom ruleRoom : ℕ} {a b : Outcome (Report × Counts)} {x y u v : List ℕ}
     → Reported ws log ticks editRoom ruleRoom a x u → Reported ws log ticks editRoom ruleRoom b y v → (a ≡ b) × (x ≡ y) × (u ≡ v)
 reported-unique p q = Answers.reported-unique p q

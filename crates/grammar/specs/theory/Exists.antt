@@ -19,7 +19,7 @@ use Rattle.grammar.specs.Run.{State, Limits, Run, started, next, made, l
 use Rattle.grammar.specs.declared.Refusal.{Refusal}
 use Rattle.grammar.specs.declared.Refusal.the-variants.{StackFull, NoRoom}
 use Rattle.grammar.specs.theory.Leftmost.{Der, of-der}
-use Rattle.grammar.specs.theory.Good.{Inner, Good}
+use Rattle.grammar.specs.theory.Good.{Good}
 use Rattle.grammar.specs.theory.Forms.{Ended, At}
 use Rattle.grammar.specs.theory.Reach.{Reach, Where, reach-where, reach-first, first-reach, der-of-empties}
 use Rattle.grammar.specs.theory.Predictive.{first-or-behind}
@@ -47,7 +47,7 @@ ending-room false h = subst (λ x. Ending x) h Ending.no-room
 limit-ending : (L : Limits) (s : State) (x : Pick) → Ending (limit L s x)
 unfolding limit
 limit-ending L s matching = Ending.ends
-limit-ending L s (expanding p β) = ending-stack (ltb (L .height) _) (ending-room (ltb (s .listed) (L .ruleRoom)) refl) refl
+limit-ending L s (expanding p β) = ending-stack (ltb (L .height) _) (ending-room (leb _ (L .ruleRoom)) refl) refl
 limit-ending L s dropping = Ending.ends
 limit-ending L s (correcting j i) = ending-room (leb _ (L .editRoom)) refl
 
@@ -122,7 +122,7 @@ module _
     (good : Good G N R)
     (decFirst : (α : List ℕ) (t : ℕ) → Dec (First (G .rules) α t))
     (decReliable : (c t : ℕ) → Dec (G .reliable c t)) where
-  decPlausible : {σ : List ℕ} → Ended (Inner N) σ → (t i : ℕ) → Dec (Plausible G σ t i)
+  decPlausible : {σ : List ℕ} → Ended (G .known) σ → (t i : ℕ) → Dec (Plausible G σ t i)
   decPlausible {σ = σ} e t i =
       dite
       (decLt i (length σ))
@@ -138,7 +138,7 @@ module _
       (λ n. no (λ p. n (p .first))))
       (λ n. no (λ p. n (p .within)))
 
-  decSome : {σ : List ℕ} → Ended (Inner N) σ → (t : ℕ) → Dec ((i : ℕ) × Plausible G σ t i)
+  decSome : {σ : List ℕ} → Ended (G .known) σ → (t : ℕ) → Dec ((i : ℕ) × Plausible G σ t i)
   decSome {σ = σ} e t =
       ⊎-elim
       (λ h. yes (h .value, h .holds))
@@ -146,7 +146,7 @@ module _
       (least-below (λ i. Plausible G σ t i) (decPlausible e t) (length σ))
 
   -- "An r always exists."
-  pub hit-exists : {σ ρ : List ℕ} → Ended (Inner N) σ → Ended LogToken ρ → (j i : ℕ) × Hit G σ ρ j i
+  pub hit-exists : {σ ρ : List ℕ} → Ended (G .known) σ → Ended LogToken ρ → (j i : ℕ) × Hit G σ ρ j i
   hit-exists {σ = σ} {ρ = ρ} s q =
       let bottom = end-fits G N R good s in
       let end = ended-last q in
@@ -166,7 +166,7 @@ module _
         },
       )
 
-  hit-live : {σ ρ : List ℕ} → Live G N σ ρ → (ρ ≡ [] → ⊥) → (j i : ℕ) × Hit G σ ρ j i
+  hit-live : {σ ρ : List ℕ} → Live G σ ρ → (ρ ≡ [] → ⊥) → (j i : ℕ) × Hit G σ ρ j i
   hit-live (Live.running s q a) n = hit-exists s q
   hit-live (Live.over e f) n = absurd (n f)
 
@@ -175,7 +175,7 @@ module _
       → Path G L (started (G .begin) log) ms u → (u .rest ≡ [] → ⊥) → (j i : ℕ) × Hit G (u .stack) (u .rest) j i
   hit-on-path a q n = hit-live (path-live G N R good q (live-start G N R good a)) n
 
-  choice-at : {σ : List ℕ} (t : ℕ) (ρ : List ℕ) → Ended (Inner N) σ → Ended LogToken (t ∷ ρ) → At G σ → (x : Pick) × Choice G σ (t ∷ ρ) x
+  choice-at : {σ : List ℕ} (t : ℕ) (ρ : List ℕ) → Ended (G .known) σ → Ended LogToken (t ∷ ρ) → At G σ → (x : Pick) × Choice G σ (t ∷ ρ) x
   choice-at {σ = σ} t ρ s q a =
       dite
       (decFirst σ t)
@@ -183,7 +183,7 @@ module _
       (λ n. let h = hit-exists s q in (correcting (h .0) (h .1), Choice.correct n (h .2)))
 
   -- While a run runs there is a choice.
-  pub choice-exists : {σ ρ : List ℕ} → Ended (Inner N) σ → Ended LogToken ρ → At G σ → (x : Pick) × Choice G σ ρ x
+  pub choice-exists : {σ ρ : List ℕ} → Ended (G .known) σ → Ended LogToken ρ → At G σ → (x : Pick) × Choice G σ ρ x
   choice-exists s (Ended.last {X = t} e) a = choice-at t [] s (Ended.last e) a
   choice-exists s (Ended.also {X = t} {α = ρ} h q) a = choice-at t ρ s (Ended.also h q) a
 
@@ -195,7 +195,7 @@ module _
   run-decided {u = u} {x = x} c none e f = let r = f e in (made u x ++ r .0, r .1, Run.moved c e (r .2))
   run-decided c (some w) e f = ([], some w, Run.stopped c e)
 
-  run-live : {L : Limits} {u : State} → Live G N (u .stack) (u .rest)
+  run-live : {L : Limits} {u : State} → Live G (u .stack) (u .rest)
       → ((x : Pick) → Choice G (u .stack) (u .rest) x → limit L u x ≡ none
       → (ns : List Move) × (o : Option Refusal) × Run G L (next u x) ns o)
       → (ns : List Move) × (o : Option Refusal) × Run G L u ns o

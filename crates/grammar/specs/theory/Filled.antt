@@ -14,7 +14,7 @@ use Rattle.grammar.specs.Run.{Pick, Choice, State, Limits, Run, started,
 use Rattle.grammar.specs.declared.Refusal.{Refusal}
 use Rattle.grammar.specs.theory.Leftmost.{Der, to-der, of-der, der-append, der-refl, der-trans}
 use Rattle.grammar.specs.theory.Closed.{all-append}
-use Rattle.grammar.specs.theory.Good.{Inner, Good}
+use Rattle.grammar.specs.theory.Good.{Good}
 use Rattle.grammar.specs.theory.Forms.{yields-some}
 use Rattle.grammar.specs.theory.States.{LogToken, state, Live, choice-some, ended-take, live-start, live-next}
 use Rattle.grammar.specs.theory.Repaired.{repaired-derivable, passed-log}
@@ -97,7 +97,7 @@ filled-deletes p [] f = f
 filled-deletes p (t ∷ ts) f = Filled.deleted (filled-deletes (p + 1) ts f)
 
 module _ (G : Grammar) (N R : ℕ) (good : Good G N R) where
-  filled-inserts : {Xs w : List ℕ} {ms : List Move} (r : ℕ) → All (Inner N) Xs → Filled (G .rules) ms w
+  filled-inserts : {Xs w : List ℕ} {ms : List Move} (r : ℕ) → All (G .known) Xs → Filled (G .rules) ms w
       → (v : List ℕ) × Filled (G .rules) (inserts r Xs ++ ms) v
   unfolding inserts
   filled-inserts {w = w} r All.nothing f = (w, f)
@@ -106,7 +106,7 @@ module _ (G : Grammar) (N R : ℕ) (good : Good G N R) where
       let rest = filled-inserts r a f in
       (string .0 ++ rest .0, Filled.replaced (string .1) (rest .1))
 
-  filled-step : {σ ρ : List ℕ} {x : Pick} {ms : List Move} {w : List ℕ} (p k l : ℕ) → Choice G σ ρ x → Live G N σ ρ
+  filled-step : {σ ρ : List ℕ} {x : Pick} {ms : List Move} {w : List ℕ} (p k l : ℕ) → Choice G σ ρ x → Live G σ ρ
       → Filled (G .rules) ms w → (v : List ℕ) × Filled (G .rules) (made (state σ p ρ k l) x ++ ms) v
   unfolding made
   filled-step p k l c (Live.over e g) f = absurd (choice-some c g)
@@ -121,7 +121,7 @@ module _ (G : Grammar) (N R : ℕ) (good : Good G N R) where
             (filled-deletes p (take j ρ) (rest .1)),
       )
 
-  filled-run : {L : Limits} {s : State} {ms : List Move} {o : Option Refusal} → Run G L s ms o → Live G N (s .stack) (s .rest)
+  filled-run : {L : Limits} {s : State} {ms : List Move} {o : Option Refusal} → Run G L s ms o → Live G (s .stack) (s .rest)
       → (w : List ℕ) × Filled (G .rules) ms w
   filled-run (Run.ended e f) v = ([], Filled.nothing)
   filled-run (Run.moved {s = s} c l r) v =

@@ -1,15 +1,15 @@
 -- The forms that the first stack derives: each ends with END and has END nowhere else, and what stands in one to its end
 -- can be derived further there. `At` is the invariant of the run's stack.
-use Prim.Native.Nat.{ℕ, _+_, _≤_, _<_}
+use Prim.Native.Nat.{ℕ, _≤_}
 use mathlib.Core.Path.{_≡_, refl, sym, ap, subst}
 use mathlib.Core.List.{List, [], _∷_, _++_, append-assoc, cons≢nil}
 use native.Mathlib.Omega.{arith}
-use Rattle.grammar.specs.Words.{END, Terminal}
+use Rattle.grammar.specs.Words.{RuleSymbol, END, Terminal}
 use Rattle.grammar.specs.Derivation.{Rules, Derives, All, Follow, Yields}
 use Rattle.grammar.specs.Grammar.{Grammar}
 use Rattle.grammar.specs.theory.Leftmost.{Der, to-der, of-der, der-append, der-refl, der-trans}
 use Rattle.grammar.specs.theory.Closed.{all-append}
-use Rattle.grammar.specs.theory.Good.{Inner, Good}
+use Rattle.grammar.specs.theory.Good.{Good}
 
 -- END stands at the end, and each member before it has the property.
 pub data Ended (P : ℕ → Type 0) : List ℕ → Type 0 where
@@ -74,19 +74,19 @@ module _ (G : Grammar) (N R : ℕ) (good : Good G N R) where
   end-stays (Der.down r d) = absurd (not-terminal r (omega arith))
 
   -- A derivation keeps END at the end.
-  pub ended-der : {α w : List ℕ} → Der (G .rules) α w → Ended (Inner N) α → Ended (Inner N) w
+  pub ended-der : {α w : List ℕ} → Der (G .rules) α w → Ended (G .known) α → Ended (G .known) w
   ended-der Der.done e = e
-  ended-der (Der.keep d) (Ended.last {X = X} h) = subst (λ l. Ended (Inner N) (X ∷ l)) (sym (der-nil d)) (Ended.last h)
+  ended-der (Der.keep d) (Ended.last {X = X} h) = subst (λ l. Ended (G .known) (X ∷ l)) (sym (der-nil d)) (Ended.last h)
   ended-der (Der.keep d) (Ended.also h a) = Ended.also h (ended-der d a)
   ended-der (Der.down r d) (Ended.last h) = absurd (not-terminal r (omega (arith, h)))
   ended-der (Der.down {β = β} r d) (Ended.also h a) = ended-der d (ended-append (good .symbols _ _ β r) a)
 
   -- The first stack ends with END.
-  pub ended-begin : Ended (Inner N) (G .begin)
-  ended-begin = subst (λ l. Ended (Inner N) l) (sym (good .begins)) (ended-of (good .inner))
+  pub ended-begin : Ended (G .known) (G .begin)
+  ended-begin = subst (λ l. Ended (G .known) l) (sym (good .begins)) (ended-of (good .inner))
 
   -- A list of what may stand in a rule derives a terminal string.
-  pub yields-some : {φ : List ℕ} → All (Inner N) φ → (w : List ℕ) × Yields (G .rules) φ w
+  pub yields-some : {φ : List ℕ} → All (G .known) φ → (w : List ℕ) × Yields (G .rules) φ w
   yields-some All.nothing = ([], record { terminals = All.nothing; derives = Derives.done })
   yields-some (All.also {x = X} {l = φ} h a) =
       let first = one h in
@@ -100,9 +100,12 @@ module _ (G : Grammar) (N R : ℕ) (good : Good G N R) where
         },
       )
     where
-      one : {X : ℕ} → Inner N X → (w : List ℕ) × Yields (G .rules) (X ∷ []) w
-      one {X} (Inner.terminal a b) = (X ∷ [], record { terminals = All.also b All.nothing; derives = Derives.done })
-      one {X} (Inner.nonterminal a b) = let h = good .productive X a b in (h .string, h .yields)
+      one : {X : ℕ} → G .known X → (w : List ℕ) × Yields (G .rules) (X ∷ []) w
+      one {X} k = go (good .ranged X k)
+        where
+          go : RuleSymbol 64 N X → (w : List ℕ) × Yields (G .rules) (X ∷ []) w
+          go (RuleSymbol.terminal a b) = (X ∷ [], record { terminals = All.also b All.nothing; derives = Derives.done })
+          go (RuleSymbol.nonterminal a b) = let h = good .productive X a k in (h .string, h .yields)
 
   -- ---- At
 
@@ -125,13 +128,13 @@ module _ (G : Grammar) (N R : ℕ) (good : Good G N R) where
   at-down {β = β} {α = α} a r = at-der a (Der.down r (der-refl (G .rules) (β ++ α)))
 
   -- Every nonterminal stands in some form.
-  pub at-nonterminal : (A : ℕ) → 64 ≤ A → A < 64 + N → (ω : List ℕ) × At G (A ∷ ω)
+  pub at-nonterminal : (A : ℕ) → 64 ≤ A → G .known A → (ω : List ℕ) × At G (A ∷ ω)
   at-nonterminal A l h =
       let k = good .reachable A l h in
       (k .rest, record { front = k .front; stands = to-der (G .rules) (k .stands) })
 
   -- What stands in a form to its end ends with END.
-  pub at-ended : {X : ℕ} {α : List ℕ} → At G (X ∷ α) → Ended (Inner N) (X ∷ α)
+  pub at-ended : {X : ℕ} {α : List ℕ} → At G (X ∷ α) → Ended (G .known) (X ∷ α)
   at-ended a = ended-rest (a .front) (ended-der (a .stands) ended-begin)
 
   -- A token that stands behind A in a form is in FOLLOW(A).

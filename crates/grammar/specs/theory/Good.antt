@@ -1,116 +1,108 @@
 -- What the theory needs of an accepted grammar: right sides of any length up to R, any first stack that ends with END.
 -- Every theorem from here on is about such a grammar; `accepted-good` says that the words of an accepted grammar are one.
-use Prim.Native.Nat.{ℕ, zero, suc, _+_, _-_, _≤_, _<_}
+use Prim.Native.Nat.{ℕ, _+_, _-_, _≤_, _<_}
 use mathlib.Core.Path.{_≡_, refl, sym, _∙_, subst}
 use mathlib.Core.List.{List, [], _∷_, _++_, append-assoc}
 use mathlib.Core.Option.{none}
 use native.Mathlib.Omega.{arith}
-use lib.ListN.{length, getD, take, drop, length-take}
-use lib.Seq.{getD-drop}
-use Rattle.grammar.specs.Words.{START, END, Shaped, RuleSymbol, nonterminalCount, ruleCount, rightSide, rightSize, rulePlace}
+use lib.ListN.{length, drop, length-take}
+use Rattle.grammar.specs.Words.{
+  START,
+  END,
+  Shaped,
+  RuleSymbol,
+  terminalCount,
+  nonterminalCount,
+  ruleCount,
+  leftSide,
+  rightSide,
+  rightSize,
+  rulePlace,
+}
 use Rattle.grammar.specs.Derivation.{All, Reachable, Productive, NoneShared}
 use Rattle.grammar.specs.Cost.{Cheapest}
-use Rattle.grammar.specs.Grammar.{Grammar, grammarOf, RuleOf, Reliable, Meets, Verdict, Affordable}
-use Rattle.grammar.specs.Refusals.{Lowest}
-use Rattle.grammar.specs.declared.Refusal.the-variants.{BadShape, Unreachable, NoString, TooCostly, SharedPredict}
+use Rattle.grammar.specs.Grammar.{Grammar, grammarOf, RuleOf, Reliable, Verdict, Affordable, EachNonterminal, startOverEnd}
+use Rattle.grammar.specs.theory.Conditions.{Held, held}
+use Rattle.grammar.specs.theory.RightSides.{right-symbols}
 use Rattle.grammar.specs.theory.Leftmost.{to-der, of-der, der-append, der-refl}
-
--- What stands in a rule: a terminal other than END, or one of N nonterminals.
-pub data Inner (N X : ℕ) : Type 0 where
-  terminal : 1 ≤ X → X < 64 → Inner N X
-  nonterminal : 64 ≤ X → X < 64 + N → Inner N X
 
 -- A good grammar, with N nonterminals and right sides of at most R symbols.
 pub record Good (G : Grammar) (N R : ℕ) : Type 0 where
+  -- what is known is a terminal other than END, or one of N nonterminals
+  pub ranged : (X : ℕ) → G .known X → RuleSymbol 64 N X
   -- the first stack is `opened` over END
   pub opened : List ℕ
   pub begins : G .begin ≡ opened ++ (END ∷ [])
-  pub inner : All (Inner N) opened
-  -- left sides are nonterminals, right sides have at most R symbols, and END is not among them
-  pub left : (p A : ℕ) (β : List ℕ) → G .rules p A β → (64 ≤ A) × (A < 64 + N)
+  pub inner : All (G .known) opened
+  -- left sides are known nonterminals, right sides have at most R symbols, all known
+  pub left : (p A : ℕ) (β : List ℕ) → G .rules p A β → (64 ≤ A) × G .known A
   pub size : (p A : ℕ) (β : List ℕ) → G .rules p A β → length β ≤ R
-  pub symbols : (p A : ℕ) (β : List ℕ) → G .rules p A β → All (Inner N) β
+  pub symbols : (p A : ℕ) (β : List ℕ) → G .rules p A β → All (G .known) β
   -- a rule has one right side
   pub functional : (p A B : ℕ) (β γ : List ℕ) → G .rules p A β → G .rules p B γ → β ≡ γ
   -- the conditions of the grammar check
-  pub reachable : (A : ℕ) → 64 ≤ A → A < 64 + N → Reachable (G .rules) (G .begin) A
-  pub productive : (A : ℕ) → 64 ≤ A → A < 64 + N → Productive (G .rules) A
-  pub costs : (A : ℕ) → 64 ≤ A → A < 64 + N → (c : ℕ) × Cheapest (G .rules) (G .price) A c
+  pub reachable : (A : ℕ) → 64 ≤ A → G .known A → Reachable (G .rules) (G .begin) A
+  pub productive : (A : ℕ) → 64 ≤ A → G .known A → Productive (G .rules) A
+  pub costs : (A : ℕ) → 64 ≤ A → G .known A → (c : ℕ) × Cheapest (G .rules) (G .price) A c
   pub none-shared : NoneShared (G .rules) (G .begin)
   -- "its reliability counts as unlimited"
   pub unlimited : (c : ℕ) → G .reliable c END
+
+-- A known nonterminal is one of the N.
+pub good-below : {G : Grammar} {N R A : ℕ} → Good G N R → 64 ≤ A → G .known A → A < 64 + N
+good-below {A = A} good l k = go (good .ranged A k)
+  where
+    go : {N : ℕ} → RuleSymbol 64 N A → A < 64 + N
+    go (RuleSymbol.terminal a b) = omega arith
+    go (RuleSymbol.nonterminal a b) = b
+
+-- END is not known.
+pub known-not-end : {G : Grammar} {N R X : ℕ} → Good G N R → G .known X → X ≡ END → ⊥
+known-not-end {X = X} good k e = go (good .ranged X k)
+  where
+    go : {N : ℕ} → RuleSymbol 64 N X → ⊥
+    go (RuleSymbol.terminal a b) = omega arith
+    go (RuleSymbol.nonterminal a b) = omega arith
 
 -- ---- The words of an accepted grammar
 
 -- The five conditions, of words that are accepted.
 pub record Accepted (ws : List ℕ) : Type 0 where
   pub shaped : Shaped ws
-  pub reachable : (k : ℕ) → k < nonterminalCount ws → Reachable (RuleOf ws) (START ∷ []) (64 + k)
-  pub productive : (k : ℕ) → k < nonterminalCount ws → Productive (RuleOf ws) (64 + k)
-  pub affordable : (k : ℕ) → k < nonterminalCount ws → Affordable ws (64 + k)
-  pub none-shared : NoneShared (RuleOf ws) (START ∷ END ∷ [])
-
-meets-shaped : {ws : List ℕ} → Meets ws BadShape → Shaped ws
-meets-shaped (Meets.shaped s) = s
-
-meets-reachable : {ws : List ℕ} → Meets ws Unreachable
-    → (k : ℕ) → k < nonterminalCount ws → Reachable (RuleOf ws) (START ∷ []) (64 + k)
-meets-reachable (Meets.reachable f) = f
-
-meets-productive : {ws : List ℕ} → Meets ws NoString → (k : ℕ) → k < nonterminalCount ws → Productive (RuleOf ws) (64 + k)
-meets-productive (Meets.productive f) = f
-
-meets-affordable : {ws : List ℕ} → Meets ws TooCostly → (k : ℕ) → k < nonterminalCount ws → Affordable ws (64 + k)
-meets-affordable (Meets.affordable f) = f
-
-meets-none-shared : {ws : List ℕ} → Meets ws SharedPredict → NoneShared (RuleOf ws) (START ∷ END ∷ [])
-meets-none-shared (Meets.none-shared f) = f
-
--- They are met one by one.
-pub accepted-by : {ws : List ℕ} → Meets ws BadShape → Meets ws Unreachable → Meets ws NoString → Meets ws TooCostly
-    → Meets ws SharedPredict → Accepted ws
-accepted-by a b c d e =
-    record {
-      shaped = meets-shaped a;
-      reachable = meets-reachable b;
-      productive = meets-productive c;
-      affordable = meets-affordable d;
-      none-shared = meets-none-shared e;
-    }
+  pub reachable : EachNonterminal ws (Reachable (RuleOf ws) (START ∷ []))
+  pub productive : EachNonterminal ws (Productive (RuleOf ws))
+  pub affordable : EachNonterminal ws (Affordable ws)
+  pub none-shared : NoneShared (RuleOf ws) startOverEnd
 
 -- Accepted words meet all five.
 pub accepted : {ws : List ℕ} → Verdict ws none → Accepted ws
-accepted (Lowest.passes a (Lowest.passes b (Lowest.passes c (Lowest.passes d (Lowest.passes e Lowest.all-met))))) =
-    accepted-by a b c d e
+unfolding Held
+accepted {ws} v =
+    let h = held v in
+    record {
+      shaped = h .0;
+      reachable = h .1 .0;
+      productive = h .1 .1 .0;
+      affordable = h .1 .1 .1 .0;
+      none-shared = h .1 .1 .1 .1 .0;
+    }
 
--- Each of the first n members has what every place below n has.
-all-take : {P : ℕ → Type 0} (n : ℕ) (l : List ℕ) → ((i : ℕ) → i < n → P (getD l i 0)) → All P (take n l)
-all-take zero l f = All.nothing
-all-take (suc n) [] f = All.nothing
-all-take (suc n) (x ∷ l) f = All.also (f 0 (omega arith)) (all-take n l (λ i h. f (suc i) (omega arith)))
-
-inner-of : {T N x : ℕ} → T ≤ 64 → RuleSymbol T N x → Inner N x
-inner-of l (RuleSymbol.terminal a b) = Inner.terminal a (omega arith)
-inner-of l (RuleSymbol.nonterminal a b) = Inner.nonterminal a b
+known-ranged : {T N x : ℕ} → T ≤ 64 → RuleSymbol T N x → RuleSymbol 64 N x
+known-ranged l (RuleSymbol.terminal a b) = RuleSymbol.terminal a (omega arith)
+known-ranged l (RuleSymbol.nonterminal a b) = RuleSymbol.nonterminal a b
 
 module _ (ws : List ℕ) (a : Accepted ws) where
-  words-left : (p A : ℕ) (β : List ℕ) → RuleOf ws p A β → (64 ≤ A) × (A < 64 + nonterminalCount ws)
+  words-left : (p A : ℕ) (β : List ℕ) → RuleOf ws p A β → (64 ≤ A) × RuleSymbol (terminalCount ws) (nonterminalCount ws) A
+  unfolding leftSide
   words-left p A β r =
       let h = a .shaped .rules p (r .counted) .left in
-      (omega (arith, r .left), omega (arith, r .left))
+      (omega (arith, r .left), RuleSymbol.nonterminal (omega (arith, r .left)) (omega (arith, r .left)))
 
   words-size : (p : ℕ) → length (rightSide ws p) ≤ rightSize ws p
   unfolding rightSide
   words-size p = omega (arith, length-take (rightSize ws p) (drop (rulePlace ws p + 2) ws))
 
-  words-symbols : (p : ℕ) → p < ruleCount ws → All (Inner (nonterminalCount ws)) (rightSide ws p)
-  unfolding rightSide
-  words-symbols p h =
-      all-take (rightSize ws p) (drop (rulePlace ws p + 2) ws)
-      (λ i l. subst (λ x. Inner (nonterminalCount ws) x) (sym (getD-drop (rulePlace ws p + 2) ws i 0))
-      (inner-of (a .shaped .terminals-high) (a .shaped .rules p h .symbols i l)))
-
-  words-reachable : (k : ℕ) → k < nonterminalCount ws → Reachable (RuleOf ws) (START ∷ END ∷ []) (64 + k)
+  words-reachable : (k : ℕ) → k < nonterminalCount ws → Reachable (RuleOf ws) (startOverEnd) (64 + k)
   words-reachable k l =
       let h = a .reachable k l in
       let d = der-append (RuleOf ws) (to-der (RuleOf ws) (h .stands)) (der-refl (RuleOf ws) (END ∷ [])) in
@@ -120,10 +112,14 @@ module _ (ws : List ℕ) (a : Accepted ws) where
         stands = of-der (RuleOf ws) (rw append-assoc at d);
       }
 
-  at-number : (P : ℕ → Type 0) (N : ℕ) → ((k : ℕ) → k < N → P (64 + k)) → (A : ℕ) → 64 ≤ A → A < 64 + N → P A
-  at-number P N f A l h =
+  at-number : (P : ℕ → Type 0) (T N : ℕ) → T ≤ 64 → ((k : ℕ) → k < N → P (64 + k)) → (A : ℕ) → 64 ≤ A → RuleSymbol T N A → P A
+  at-number P T N t f A l (RuleSymbol.terminal x y) = absurd (omega arith)
+  at-number P T N t f A l (RuleSymbol.nonterminal x y) =
       let e : 64 + (A - 64) ≡ A = omega arith in
       subst P e (f (A - 64) (omega arith))
+
+  each-known : (P : ℕ → Type 0) → EachNonterminal ws P → (A : ℕ) → 64 ≤ A → grammarOf ws .known A → P A
+  each-known P = at-number P (terminalCount ws) (nonterminalCount ws) (a .shaped .terminals-high)
 
   -- The words of an accepted grammar give a good grammar, whatever R bounds its right sides.
   pub good-within : (R : ℕ) → ((p : ℕ) → p < ruleCount ws → rightSize ws p ≤ R) → Good (grammarOf ws) (nonterminalCount ws) R
@@ -131,18 +127,19 @@ module _ (ws : List ℕ) (a : Accepted ws) where
       record {
         opened = START ∷ [];
         begins = refl;
-        inner = All.also {x = START} (Inner.nonterminal (omega arith) (omega (arith, a .shaped .nonterminals-low))) All.nothing;
+        ranged = λ X k. known-ranged (a .shaped .terminals-high) k;
+        inner = All.also {x = START} (RuleSymbol.nonterminal (omega arith) (omega (arith, a .shaped .nonterminals-low))) All.nothing;
         left = words-left;
         size =
             λ p A β r. subst (λ l. length l ≤ R) (sym (r .right)) (omega (arith, words-size p, bound p (r .counted)));
-        symbols = λ p A β r. subst (λ l. All (Inner (nonterminalCount ws)) l) (sym (r .right)) (words-symbols p (r .counted));
+        symbols = λ p A β r. subst (λ l. All (RuleSymbol (terminalCount ws) (nonterminalCount ws)) l) (sym (r .right))
+            (right-symbols ws (a .shaped) p (r .counted));
         functional = λ p A B β γ r s. r .right ∙ sym (s .right);
-        reachable = at-number (Reachable (RuleOf ws) (START ∷ END ∷ [])) (nonterminalCount ws) words-reachable;
-        productive = at-number (Productive (RuleOf ws)) (nonterminalCount ws) (a .productive);
+        reachable = each-known (Reachable (RuleOf ws) startOverEnd) words-reachable;
+        productive = each-known (Productive (RuleOf ws)) (a .productive);
         costs =
-            at-number
+            each-known
             (λ A. (c : ℕ) × Cheapest (RuleOf ws) (grammarOf ws .price) A c)
-            (nonterminalCount ws)
             (λ k l. (a .affordable k l .cost, a .affordable k l .cheapest));
         none-shared = a .none-shared;
         unlimited = λ c. Reliable.unlimited refl;
@@ -160,7 +157,3 @@ module _ (ws : List ℕ) (a : Accepted ws) where
   -- So R is 8 for every accepted grammar.
   pub good-words : Good (grammarOf ws) (nonterminalCount ws) 8
   good-words = good-within 8 eight-bounds
-
--- The words of an accepted grammar are a good grammar.
-pub accepted-good : (ws : List ℕ) → Verdict ws none → Good (grammarOf ws) (nonterminalCount ws) 8
-accepted-good ws v = good-words ws (accepted v)

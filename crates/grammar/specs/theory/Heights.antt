@@ -10,7 +10,7 @@ use Rattle.grammar.specs.Derivation.{Rules, CanBeEmpty}
 use Rattle.grammar.specs.Grammar.{Grammar}
 use Rattle.grammar.specs.theory.Leftmost.{to-der}
 use Rattle.grammar.specs.theory.Pigeonhole.{Distinct, distinct-bounded}
-use Rattle.grammar.specs.theory.Good.{Good}
+use Rattle.grammar.specs.theory.Good.{Good, good-below}
 use Rattle.grammar.specs.theory.Forms.{at-nonterminal, at-ended}
 use Rattle.grammar.specs.theory.Reach.{Empties, Emptied, empties, empties-append, empties-split, reach-behind, first-reach}
 use Rattle.grammar.specs.theory.Predictive.{one-way, ended-first, behind-nonterminal}
@@ -30,7 +30,7 @@ null-empties {R = R} (Null.also r b a) =
 
 module _ (G : Grammar) (N R : ℕ) (good : Good G N R) where
   -- A nonterminal is emptied by one number of steps.
-  empties-alone : {A m n : ℕ} → 64 ≤ A → A < 64 + N → Empties (G .rules) (A ∷ []) m → Empties (G .rules) (A ∷ []) n → m ≡ n
+  empties-alone : {A m n : ℕ} → 64 ≤ A → G .known A → Empties (G .rules) (A ∷ []) m → Empties (G .rules) (A ∷ []) n → m ≡ n
   empties-alone {A = A} {m = m} {n = n} l h e f =
       let form = at-nonterminal G N R good A l h in
       let token = ended-first G N R good (behind-nonterminal G N R good l (at-ended G N R good (form .1))) in
@@ -69,7 +69,8 @@ module _ (G : Grammar) (N R : ℕ) (good : Good G N R) where
             (a .distinct);
         named =
             λ B i.
-            ⊎-elim (λ e. subst (λ x. (64 ≤ x) × (x < 64 + N)) (sym e) name) (λ k. a .named B k) (List·Memᴰ·cases-cons i);
+            ⊎-elim (λ e. subst (λ x. (64 ≤ x) × (x < 64 + N)) (sym e) (name .0, good-below good (name .0) (name .1))) (λ k. a .named B k)
+            (List·Memᴰ·cases-cons i);
         more =
             λ B i.
             ⊎-elim

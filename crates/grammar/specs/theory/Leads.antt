@@ -11,7 +11,7 @@ use Rattle.grammar.specs.Derivation.{Rules, Derives, First, CanBeEmpty}
 use Rattle.grammar.specs.Grammar.{Grammar}
 use Rattle.grammar.specs.theory.Leftmost.{Der, to-der, of-der, der-append}
 use Rattle.grammar.specs.theory.Pigeonhole.{Distinct, distinct-bounded}
-use Rattle.grammar.specs.theory.Good.{Good}
+use Rattle.grammar.specs.theory.Good.{Good, good-below}
 use Rattle.grammar.specs.theory.Forms.{At, at-nonterminal}
 use Rattle.grammar.specs.theory.Reach.{Reach, Where, der-of-empties, empties, reach-append, reach-behind, reach-where}
 use Rattle.grammar.specs.theory.Reach.{first-reach, reach-first}
@@ -81,7 +81,7 @@ module _ (R : Rules) where
 
 module _ (G : Grammar) (N R : ℕ) (good : Good G N R) where
   -- The depth of a token below a nonterminal is one number.
-  alone : {A t n m : ℕ} {δ ε : List ℕ} → 64 ≤ A → A < 64 + N → Terminal t → Reach (G .rules) t (A ∷ []) n δ
+  alone : {A t n m : ℕ} {δ ε : List ℕ} → 64 ≤ A → G .known A → Terminal t → Reach (G .rules) t (A ∷ []) n δ
       → Reach (G .rules) t (A ∷ []) m ε → n ≡ m
   alone {A = A} l h i f g =
       let form = at-nonterminal G N R good A l h in
@@ -117,7 +117,8 @@ module _ (G : Grammar) (N R : ℕ) (good : Good G N R) where
             (List·Memᴰ·cases-cons m);
         named =
             λ B m.
-            ⊎-elim (λ e. subst (λ x. (64 ≤ x) × (x < 64 + N)) (sym e) name) (λ k. below .named B k) (List·Memᴰ·cases-cons m);
+            ⊎-elim (λ e. subst (λ x. (64 ≤ x) × (x < 64 + N)) (sym e) (name .0, good-below good (name .0) (name .1)))
+            (λ k. below .named B k) (List·Memᴰ·cases-cons m);
         distinct =
             Distinct.also
             (λ m.

@@ -44,6 +44,6 @@ module _ (G : Grammar) (L : Limits) where
 
 -- A path keeps what a run keeps.
 pub path-live : (G : Grammar) (N R : ℕ) (good : Good G N R) {L : Limits} {s u : State} {ms : List Move} → Path G L s ms u
-    → Live G N (s .stack) (s .rest) → Live G N (u .stack) (u .rest)
+    → Live G (s .stack) (s .rest) → Live G (u .stack) (u .rest)
 path-live G N R good Path.still v = v
 path-live G N R good (Path.onward {s = s} c l q) v = path-live G N R good q (live-next G N R good s c v)

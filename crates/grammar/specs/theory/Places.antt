@@ -7,7 +7,18 @@
 --     kept-or-deleted             every token of the log is kept or deleted
 use Prim.Native.Nat.{ℕ, zero, suc, _+_, _≤_, _<_}
 use mathlib.Core.Path.{_≡_, refl, sym, ap, subst}
-use mathlib.Core.List.{List, [], _∷_, _++_, append-assoc, List·Memᴰ, List·Memᴰ·head, List·Memᴰ·tail, List·Memᴰ·cases-cons, List·Memᴰ·not-nil}
+use mathlib.Core.List.{
+  List,
+  [],
+  _∷_,
+  _++_,
+  append-assoc,
+  List·Memᴰ,
+  List·Memᴰ·head,
+  List·Memᴰ·tail,
+  List·Memᴰ·cases-cons,
+  List·Memᴰ·not-nil,
+}
 use mathlib.Core.Logic.{_⊎_, inl, inr, ⊎-elim}
 use mathlib.Core.Option.{Option, none}
 use native.Mathlib.Omega.{arith}
@@ -19,7 +30,7 @@ use Rattle.grammar.specs.Run.{Pick, Choice, State, Limits, Run, started,
 use Rattle.grammar.specs.Pace.{Kept}
 use Rattle.grammar.specs.declared.Refusal.{Refusal}
 use Rattle.grammar.specs.theory.States.{state}
-use Rattle.grammar.specs.theory.Determined.{some-none}
+use Rattle.grammar.specs.theory.Conditions.{some-none}
 
 -- ---- The walk
 
@@ -156,7 +167,8 @@ kept-token (Walk.deleted {t = t} w) k =
     (λ e. absurd (let z : _≡_ {A = ℕ} 0 1 = cc in omega arith))
     (λ i. later-token t (kept-token w i))
     (List·Memᴰ·cases-cons k)
-kept-token (Walk.inserted l w) k = ⊎-elim (λ e. absurd (let z : _≡_ {A = ℕ} 0 1 = cc in omega arith)) (kept-token w) (List·Memᴰ·cases-cons k)
+kept-token (Walk.inserted l w) k = ⊎-elim (λ e. absurd (let z : _≡_ {A = ℕ} 0 1 = cc in omega arith)) (kept-token w)
+    (List·Memᴰ·cases-cons k)
 
 -- A kept token has no delete record.
 pub kept-apart : {p q u X : ℕ} {ts : List ℕ} {ms : List Move} → Walk p ts ms → Kept ms q u

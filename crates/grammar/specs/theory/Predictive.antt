@@ -11,7 +11,7 @@ use Rattle.grammar.specs.Derivation.{Derives, All, First, CanBeEmpty, Fo
 use Rattle.grammar.specs.Grammar.{Grammar}
 use Rattle.grammar.specs.theory.Leftmost.{Der, to-der, of-der, der-append, der-refl}
 use Rattle.grammar.specs.theory.Closed.{closed-down, all-front, all-rest}
-use Rattle.grammar.specs.theory.Good.{Inner, Good}
+use Rattle.grammar.specs.theory.Good.{Good}
 use Rattle.grammar.specs.theory.Forms.{Ended, At, not-terminal, at-der, at-down, at-nonterminal, at-ended, at-follow, yields-some}
 use Rattle.grammar.specs.theory.Reach.{Reach, Where, reached, der-of-reach, der-of-empties, empties}
 use Rattle.grammar.specs.theory.Reach.{reach-append, reach-behind, reach-where, reach-through, first-reach, reach-first, first-append}
@@ -126,11 +126,11 @@ module _ (G : Grammar) (N R : ℕ) (good : Good G N R) where
       all-head : {t : ℕ} {w : List ℕ} → All Terminal (t ∷ w) → Terminal t
       all-head (All.also h a) = h
 
-  inner-or-first : {φ : List ℕ} → All (Inner N) φ → CanBeEmpty (G .rules) φ ⊎ ((t : ℕ) × First (G .rules) φ t)
+  inner-or-first : {φ : List ℕ} → All (G .known) φ → CanBeEmpty (G .rules) φ ⊎ ((t : ℕ) × First (G .rules) φ t)
   inner-or-first a = let y = yields-some G N R good a in empty-or-first (y .0) (y .1)
 
   -- A list that ends with END has some token in its FIRST.
-  pub ended-first : {α : List ℕ} → Ended (Inner N) α → (t : ℕ) × First (G .rules) α t
+  pub ended-first : {α : List ℕ} → Ended (G .known) α → (t : ℕ) × First (G .rules) α t
   ended-first (Ended.last {X = X} e) = (
     END,
     record { token = omega arith; rest = []; begins = subst (λ x. Derives (G .rules) (X ∷ []) (x ∷ [])) e Derives.done },
@@ -148,7 +148,7 @@ module _ (G : Grammar) (N R : ℕ) (good : Good G N R) where
           reach-first (G .rules) (f .token) (reach-behind (G .rules) (gone .1) (here .2) (gone .0 + here .0) refl)
 
   -- Behind a nonterminal END is still to come.
-  pub behind-nonterminal : {A : ℕ} {ω : List ℕ} → 64 ≤ A → Ended (Inner N) (A ∷ ω) → Ended (Inner N) ω
+  pub behind-nonterminal : {A : ℕ} {ω : List ℕ} → 64 ≤ A → Ended (G .known) (A ∷ ω) → Ended (G .known) ω
   behind-nonterminal l (Ended.last e) = absurd (omega (arith, e))
   behind-nonterminal l (Ended.also h a) = a
 
@@ -158,8 +158,8 @@ module _ (G : Grammar) (N R : ℕ) (good : Good G N R) where
       let named = good .left p A β r in
       let form = at-nonterminal G N R good A (named .0) (named .1) in
       let back = reached (G .rules) (to-der (G .rules) d) in
-      let inner : All (Inner N) (A ∷ back .behind) =
-      closed-down (G .rules) (Inner N) (λ q B γ s h. good .symbols q B γ s)
+      let inner : All (G .known) (A ∷ back .behind) =
+      closed-down (G .rules) (G .known) (λ q B γ s h. good .symbols q B γ s)
       (der-of-reach (G .rules) (back .reach) (der-refl (G .rules) (back .behind)))
       (good .symbols p A β r) in
       let token = ended-first (behind-nonterminal (named .0) (at-ended G N R good (form .1))) in

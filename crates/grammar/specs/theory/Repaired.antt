@@ -14,11 +14,11 @@ use Rattle.grammar.specs.Moves.{Move, logToken, repaired, passed, placed
 use Rattle.grammar.specs.Run.{Pick, Choice, State, Limits, Run, started, next, made, deletes, inserts}
 use Rattle.grammar.specs.declared.Refusal.{Refusal}
 use Rattle.grammar.specs.theory.Leftmost.{Der, split, to-der, of-der, der-append, der-refl}
-use Rattle.grammar.specs.theory.Good.{Inner, Good}
+use Rattle.grammar.specs.theory.Good.{Good, known-not-end}
 use Rattle.grammar.specs.theory.Forms.{Ended, ended-nonempty, some-end, der-nil, end-stays, ended-begin}
 use Rattle.grammar.specs.theory.Chosen.{dropped-empty}
 use Rattle.grammar.specs.theory.States.{LogToken, state, Live, choice-some, ended-drop, live-start, live-next}
-use Rattle.grammar.specs.theory.Determined.{some-none}
+use Rattle.grammar.specs.theory.Conditions.{some-none}
 use Rattle.grammar.specs.theory.Folds.{repaired-correction, log-token, passed-correction, placed-split}
 
 -- The stack derives what the moves leave, with END behind it; or the run is over.
@@ -27,7 +27,7 @@ pub data Derived (R : Rules) (σ : List ℕ) (ms : List Move) : Type 0 where
   over : σ ≡ [] → ms ≡ [] → Derived R σ ms
 
 module _ (G : Grammar) (N R : ℕ) (good : Good G N R) where
-  formed : {σ : List ℕ} {ms : List Move} → Ended (Inner N) σ → Derived (G .rules) σ ms → Der (G .rules) σ (repaired ms ++ (END ∷ []))
+  formed : {σ : List ℕ} {ms : List Move} → Ended (G .known) σ → Derived (G .rules) σ ms → Der (G .rules) σ (repaired ms ++ (END ∷ []))
   formed s (Derived.form d) = d
   formed s (Derived.over e f) = absurd (ended-nonempty s e)
 
@@ -41,20 +41,19 @@ module _ (G : Grammar) (N R : ℕ) (good : Good G N R) where
       let form : X ∷ [] ≡ (logToken t ++ repaired ms) ++ (END ∷ []) = cc in
       Derived.form (subst (λ w. Der (G .rules) (X ∷ []) w) form (der-refl (G .rules) (X ∷ [])))
 
-  derived-match : {X t : ℕ} {σ ρ : List ℕ} {ms : List Move} (p : ℕ) → X ≡ t → Ended (Inner N) (X ∷ σ) → Ended LogToken (t ∷ ρ)
+  derived-match : {X t : ℕ} {σ ρ : List ℕ} {ms : List Move} (p : ℕ) → X ≡ t → Ended (G .known) (X ∷ σ) → Ended LogToken (t ∷ ρ)
       → Derived (G .rules) σ ms → Derived (G .rules) (X ∷ σ) (Move.match p t ∷ ms)
   unfolding repaired
   derived-match p e (Ended.last h) (Ended.last k) i = derived-end p h k i
   derived-match p e (Ended.last h) (Ended.also k r) i = absurd (omega (arith, k .0, e, h))
-  derived-match p e (Ended.also (Inner.terminal x y) s) (Ended.last k) i = absurd (omega (arith, k, e))
-  derived-match p e (Ended.also (Inner.nonterminal x y) s) (Ended.last k) i = absurd (omega (arith, k, e))
+  derived-match p e (Ended.also h s) (Ended.last k) i = absurd (known-not-end good h (e ∙ k))
   derived-match {X = X} {t = t} {σ = σ} {ms = ms} p e (Ended.also h s) (Ended.also k r) i =
       let kept : logToken t ≡ X ∷ [] = log-token t (k .0) ∙ ap (λ x. x ∷ []) (sym e) in
       Derived.form
       (subst (λ w. Der (G .rules) (X ∷ σ) ((w ++ repaired ms) ++ (END ∷ []))) (sym kept) (Der.keep (formed s i)))
 
-  derived-step : {σ ρ : List ℕ} {x : Pick} {ms : List Move} (p k l : ℕ) → Choice G σ ρ x → Live G N σ ρ
-      → Live G N (next (state σ p ρ k l) x .stack) (next (state σ p ρ k l) x .rest)
+  derived-step : {σ ρ : List ℕ} {x : Pick} {ms : List Move} (p k l : ℕ) → Choice G σ ρ x → Live G σ ρ
+      → Live G (next (state σ p ρ k l) x .stack) (next (state σ p ρ k l) x .rest)
       → Derived (G .rules) (next (state σ p ρ k l) x .stack) ms → Derived (G .rules) σ (made (state σ p ρ k l) x ++ ms)
   unfolding next made repaired
   derived-step p k l c (Live.over e f) w i = absurd (choice-some c f)
@@ -73,7 +72,7 @@ module _ (G : Grammar) (N R : ℕ) (good : Good G N R) where
       Derived.form (subst₂ (λ u w. Der (G .rules) u w) (take-append-drop h σ) left d)
 
   derived : {L : Limits} {s : State} {ms : List Move} {o : Option Refusal} → Run G L s ms o → o ≡ none
-      → Live G N (s .stack) (s .rest) → Derived (G .rules) (s .stack) ms
+      → Live G (s .stack) (s .rest) → Derived (G .rules) (s .stack) ms
   derived (Run.ended e f) h v = Derived.over e refl
   derived (Run.moved {s = s} {x = x} c l r) h v =
       let w = live-next G N R good s c v in

@@ -1,6 +1,6 @@
 -- `growth::add_to` meets its contract: where the union is the set itself, nothing was to be done.
 use mathlib.Core.Path.{sym, _∙_}
-use Rattle.growth.specs.Grown.{added-nothing, added-some}
+use Rattle.growth.specs.Added.{added-nothing, added-some}
 use borrow.Author.Needs.{needs}
 use Rattle.growth.proofs.add_to.Statement.{statement}
 use Rattle.growth.proofs.add_to.Tie as tie
@@ -32,14 +32,4 @@ returns-2 c =
     rw (c .before .union .ensures) (added-some _ _ _ (start .pre) (λ e. c .if1 .left (c .before .union .ensures ∙ e)))
 
 pub add-to-spec : {M : Type 1} → statement M
-add-to-spec =
-    tie.close
-    (tie.spec
-    mul-old
-    slice-read-old
-    union-requires
-    returns
-    mul-all
-    slice-write-all
-    same-length
-    returns-2)
+add-to-spec = tie.close (tie.spec mul-old slice-read-old union-requires returns mul-all slice-write-all same-length returns-2)

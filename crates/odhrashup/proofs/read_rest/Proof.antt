@@ -1,7 +1,5 @@
 -- `odhrashup::read_rest` meets its contract: nothing has to hold from turn to turn. The measure is the turns that are left.
 use borrow.Author.Needs.{needs}
-use native.Mathlib.Omega.{arith}
-use Prim.Native.Nat.{ℕ}
 use borrow.Author.Needs.{needs}
 use Rattle.odhrashup.proofs.read_rest.Statement.{statement}
 use Rattle.odhrashup.proofs.read_rest.Tie as tie

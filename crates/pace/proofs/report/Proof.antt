@@ -1,29 +1,28 @@
--- `pace::report` meets its contract: the parse's answer leads to the report's, with its counts (`Answering`).
-use mathlib.Core.Path.{ap}
+use mathlib.Core.Path.{refl}
+use Rattle.pace.specs.Settling.{reports-refused, whole, whole-lent, whole-reports}
 use borrow.Author.Needs.{needs}
-use Rattle.repair.specs.Runs.{parsingOf}
-use Rattle.pace.proofs.Answering.{ended-left, ended-report, refused-report}
 use Rattle.pace.proofs.report.Statement.{statement}
 use Rattle.pace.proofs.report.Tie as tie
+use Rattle.pace.proofs.report.Reads as reads
+use Rattle.pace.proofs.report.Lts as lts
+use Rattle.pace.proofs.cycles.Reads as cycles-reads
+use Rattle.parser.proofs.parse_asking.Reads as parse-asking-reads
 
-parse-requires : tie.Need-parse-requires
-parse-requires c κs = search needs
+parse-asking-requires : tie.Need-parse-asking-requires
+parse-asking-requires c κs = search needs
 
 enum-known-parsing : tie.Need-enum-known-parsing
 enum-known-parsing c = search needs
 
-ended-requires : tie.Need-ended-requires
-unfolding parsingOf
-ended-requires c κs =
-    let told = c .before .before .before in
-    let parsed = told .before .before .before .before .before .before in
-    ended-left (parsed .parse .ensures) (ap parsingOf (told .parsing .given .1))
+cycles-requires : tie.Need-cycles-requires
+cycles-requires c κs =
+    let start = c .before .before .before .before .before .before .before .before .before .before .before .before .before .before .before
+    .before in
+    let parse-asking = c .before .before .before .before .before .before .before .before .parse-asking in
+    whole-lent (whole (start .args .ticks .now) _ refl (parse-asking .ensures) (c .before .before .parsing .given .1))
 
 enum-known-parsing-2 : tie.Need-enum-known-parsing-2
 enum-known-parsing-2 c = search needs
-
-lowest-requires : tie.Need-lowest-requires
-lowest-requires c κs = search needs
 
 same-length : tie.Need-same-length
 same-length c = search needs
@@ -33,9 +32,11 @@ same-length-2 c = search needs
 
 returns : tie.Need-returns
 returns c =
-    let answered = c .before .before .before .before in
-    let parsed = answered .before .before .before .before .before .before .before .before .before .before in
-    ended-report (parsed .parse .ensures) (answered .ended .ensures)
+    let start = c .before .before .before .before .before .before .before .before .before .before .before .before .before .before .before
+    .before .before in
+    let parse-asking = c .before .before .before .before .before .before .before .before .before .parse-asking in
+    let parsing = c .before .before .before .parsing in
+    whole-reports (whole (start .args .ticks .now) _ refl (parse-asking .ensures) (parsing .given .1)) (c .cycles .ensures)
 
 same-length-3 : tie.Need-same-length-3
 same-length-3 c = search needs
@@ -44,21 +45,20 @@ same-length-4 : tie.Need-same-length-4
 same-length-4 c = search needs
 
 returns-2 : tie.Need-returns-2
-unfolding parsingOf
 returns-2 c =
-    let told = c .before .before in
-    let parsed = told .before .before .before .before .before .before in
-    refused-report (parsed .parse .ensures) _ (ap parsingOf (told .parsing2 .given .1)) (c .lowest .ensures)
+    let start = c .before .before .before .before .before .before .before .before .before .before .before .before .before .before .before
+    in
+    let parse-asking = c .before .before .before .before .before .before .before .parse-asking in
+    reports-refused (start .args .ticks .now) _ refl (parse-asking .ensures) (c .before .parsing2 .given .1)
 
 pub report-spec : {M : Type 1} → statement M
 report-spec =
     tie.close
     (tie.spec
-    parse-requires
+    parse-asking-requires
     enum-known-parsing
-    ended-requires
+    cycles-requires
     enum-known-parsing-2
-    lowest-requires
     same-length
     same-length-2
     returns

@@ -4,7 +4,7 @@ use native.Mathlib.Omega.{arith}
 use Prim.Native.Nat.{_-_}
 use mathlib.Core.Path.{_≡_, sym, ap, _∙_}
 use lib.ListN.{length, length-replicate}
-use Rattle.sets.specs.Telling.{told, denied}
+use Rattle.base.specs.Telling.{told, denied}
 use Rattle.predicts.specs.Seen.{Seen, seen-begins, seen-goes, seen-fails, seen-ends}
 use Rattle.predicts.proofs.none_shared.Statement.{statement}
 use Rattle.predicts.proofs.none_shared.Tie as tie
@@ -15,15 +15,15 @@ Inv-loop words places null firsts follows seen₀ count p₀ seen p = (length se
 abbrev μ-loop : tie.MeasureT-loop
 μ-loop words places null firsts follows seen₀ count p₀ seen p = count - p
 
-clear-requires : tie.Need-clear-requires Inv-loop μ-loop
-clear-requires c κs = search needs
+clear-numbers-requires : tie.Need-clear-numbers-requires Inv-loop μ-loop
+clear-numbers-requires c κs = search needs
 
 rule-count-requires : tie.Need-rule-count-requires Inv-loop μ-loop
 rule-count-requires c κs = c .before .before .before .before .before .before .before .before .before .pre .0 .asked .ready .shaped
 
 loop-holds : tie.Need-loop-holds Inv-loop μ-loop
 loop-holds c =
-    let clear = c .before .before .before .clear in
+    let clear = c .before .before .before .clear-numbers in
     let start = c .before .before .before .before .before .before .before .before .before .before in (
       ap length (clear .ensures) ∙ (length-replicate _ _ ∙ start .pre .1),
       seen-begins _ _ (length (start .args .seen .now))
@@ -104,7 +104,7 @@ loop-again c =
     let shared = c .before .before .before .before .before .shared in
     let if1 = c .before .before .before .before .if1 in
     let n = rule-count .ensures in (
-      add-to .ensures .grown .same ∙ loop .inv .0,
+      add-to .ensures .same ∙ loop .inv .0,
       seen-goes (loop .inv .1) (omega (arith, loop-test .taken)) (left-of .ensures)
           (predict .ensures) (shared .ensures .no (if1 .left)) (add-to .ensures),
     )
@@ -120,23 +120,5 @@ returns-2 c = let n = c .before .before .rule-count .ensures in told (seen-ends 
 pub none-shared-spec : {M : Type 1} → statement M
 none-shared-spec =
     tie.close
-    (tie.spec
-    Inv-loop
-    μ-loop
-    clear-requires
-    rule-count-requires
-    loop-holds
-    predict-requires
-    left-of-requires
-    cast-k
-    mul-shared
-    slice-read-shared
-    shared-requires
-    same-length
-    returns
-    add-to-requires
-    add-p
-    loop-less
-    loop-again
-    same-length-2
-    returns-2)
+    (tie.spec Inv-loop μ-loop clear-numbers-requires rule-count-requires loop-holds predict-requires left-of-requires cast-k mul-shared
+    slice-read-shared shared-requires same-length returns add-to-requires add-p loop-less loop-again same-length-2 returns-2)

@@ -26,12 +26,4 @@ returns c =
     predict-found (start .pre .0) (start .pre .1) (left-of .ensures) (c .first-with .ensures)
 
 pub predict-spec : {M : Type 1} → statement M
-predict-spec =
-    tie.close
-    (tie.spec
-    left-of-requires
-    cast-behind
-    mul-behind
-    shared-slice-read-behind
-    first-with-requires
-    returns)
+predict-spec = tie.close (tie.spec left-of-requires cast-behind mul-behind shared-slice-read-behind first-with-requires returns)

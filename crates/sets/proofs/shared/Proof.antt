@@ -7,7 +7,7 @@ use borrow.Author.Needs.{needs}
 use lib.Dec.{eqb}
 use lib.Bits.{bitAnd, and-lt}
 use Rattle.sets.specs.Operations.{Shared}
-use Rattle.sets.specs.Telling.{Tells}
+use Rattle.base.specs.Telling.{Tells}
 use Rattle.sets.specs.Laws.{some-member, shared-some, shared-none}
 use Rattle.sets.proofs.shared.Statement.{statement}
 use Rattle.sets.proofs.shared.Tie as tie

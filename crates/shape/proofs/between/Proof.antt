@@ -1,6 +1,6 @@
 -- `shape::between` meets its contract: by the two comparisons.
 use native.Mathlib.Omega.{arith}
-use Rattle.sets.specs.Telling.{denied, tells-le}
+use Rattle.base.specs.Telling.{denied, tells-le}
 use Rattle.shape.proofs.between.Statement.{statement}
 use Rattle.shape.proofs.between.Tie as tie
 

@@ -1,6 +1,6 @@
 -- `shape::header_right` meets its contract: each exit by its field of `HeaderRight`.
 use native.Mathlib.Omega.{arith}
-use Rattle.sets.specs.Telling.{denied}
+use Rattle.base.specs.Telling.{denied}
 use Rattle.shape.proofs.Judging.{inside-tells}
 use borrow.Author.Needs.{needs}
 use Rattle.shape.proofs.header_right.Statement.{statement}
@@ -123,34 +123,8 @@ returns-9 c =
 pub header-right-spec : {M : Type 1} → statement M
 header-right-spec =
     tie.close
-    (tie.spec
-    add-if1
-    returns
-    shared-slice-read-between
-    between-requires
-    returns-2
-    shared-slice-read-between-2
-    between-requires-2
-    returns-3
-    shared-slice-read-between-3
-    between-requires-3
-    returns-4
-    shared-slice-read-marks-right
-    shared-slice-read-marks-right-2
-    shared-slice-read-marks-right-3
-    marks-right-requires
-    returns-5
-    shared-slice-read-between-4
-    between-requires-4
-    returns-6
-    shared-slice-read-if7
-    returns-7
-    add-if8
-    mul-if8
-    shared-slice-read-if8
-    returns-8
-    shared-slice-read-wide
-    wide-requires
-    mul-result
-    add-result
-    returns-9)
+    (tie.spec add-if1 returns shared-slice-read-between between-requires returns-2 shared-slice-read-between-2 between-requires-2
+    returns-3 shared-slice-read-between-3 between-requires-3 returns-4 shared-slice-read-marks-right
+    shared-slice-read-marks-right-2 shared-slice-read-marks-right-3 marks-right-requires returns-5 shared-slice-read-between-4
+    between-requires-4 returns-6 shared-slice-read-if7 returns-7 add-if8 mul-if8 shared-slice-read-if8 returns-8
+    shared-slice-read-wide wide-requires mul-result add-result returns-9)

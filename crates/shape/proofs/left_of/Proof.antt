@@ -1,23 +1,14 @@
--- `shape::left_of` meets its contract: by the word at the rule's place.
+-- `shape::left_of` meets its contract: by the first word of the rule.
 use Rattle.shape.proofs.Reading.{left-at}
 use borrow.Author.Needs.{needs}
 use Rattle.shape.proofs.left_of.Statement.{statement}
 use Rattle.shape.proofs.left_of.Tie as tie
 
-start-of-requires : tie.Need-start-of-requires
-start-of-requires c κs = search needs
-
-mul-result : tie.Need-mul-result
-mul-result c = search needs
-
-shared-slice-read-result : tie.Need-shared-slice-read-result
-shared-slice-read-result c = search needs
+rule-word-requires : tie.Need-rule-word-requires
+rule-word-requires c κs = search needs
 
 returns : tie.Need-returns
-returns c =
-    let start = c .before .before .before .before in
-    let pre = start .pre in
-    left-at _ (pre .0 .shaped) _ (pre .1) _ (c .before .start-of .ensures)
+returns c = left-at _ (c .before .before .before .pre .0 .shaped) _ (c .before .before .before .pre .1) _ (c .rule-word .ensures)
 
 pub left-of-spec : {M : Type 1} → statement M
-left-of-spec = tie.close (tie.spec start-of-requires mul-result shared-slice-read-result returns)
+left-of-spec = tie.close (tie.spec rule-word-requires returns)

@@ -1,6 +1,6 @@
 -- `shape::marks_right` meets its contract: by the two cases of `Marks`.
 use native.Mathlib.Omega.{arith}
-use Rattle.sets.specs.Telling.{denied, tells-le, tells-eq}
+use Rattle.base.specs.Telling.{denied, tells-le, tells-eq}
 use Rattle.grammar.specs.Words.{Marks}
 use Rattle.shape.proofs.Judging.{mark-closing, mark-both, mark-opening}
 use Rattle.shape.proofs.marks_right.Statement.{statement}

@@ -1,6 +1,6 @@
 -- `shape::rule_right` meets its contract: each exit by its field of `RuleRight`.
 use native.Mathlib.Omega.{arith}
-use Rattle.sets.specs.Telling.{denied}
+use Rattle.base.specs.Telling.{denied}
 use Rattle.shape.proofs.Placing.{rule-tells}
 use borrow.Author.Needs.{needs}
 use Rattle.shape.proofs.rule_right.Statement.{statement}
@@ -55,18 +55,5 @@ returns-5 c =
 pub rule-right-spec : {M : Type 1} → statement M
 rule-right-spec =
     tie.close
-    (tie.spec
-    sub-left
-    returns
-    mul-if2
-    shared-slice-read-if2
-    returns-2
-    add-wide
-    mul-wide
-    shared-slice-read-wide
-    wide-requires
-    returns-3
-    returns-4
-    add-symbols-right
-    symbols-right-requires
-    returns-5)
+    (tie.spec sub-left returns mul-if2 shared-slice-read-if2 returns-2 add-wide mul-wide shared-slice-read-wide wide-requires
+    returns-3 returns-4 add-symbols-right symbols-right-requires returns-5)

@@ -1,11 +1,8 @@
 -- `shape::rules_right` meets its contract: the rules in front of p are right, and their places stand in
 -- the table. The measure is what is left of P.
-use mathlib.Core.Path.{_≡_, refl}
--- `shape::rules_right` meets its contract: the rules in front of p are right, and their places stand in
--- the table. The measure is what is left of P.
 use borrow.Author.Needs.{needs}
 use native.Mathlib.Omega.{arith}
-use mathlib.Core.Path.{_≡_}
+use mathlib.Core.Path.{_≡_, refl}
 use Prim.Native.Nat.{_-_}
 use lib.ListN.{length, length-set}
 use Rattle.shape.proofs.Placing.{Passed, begun, more, over, refused, fits-word}
@@ -121,32 +118,7 @@ returns-2 c =
 pub rules-right-spec : {M : Type 1} → statement M
 rules-right-spec =
     tie.close
-    (tie.spec
-    Inv-loop
-    μ-loop
-    shared-slice-read-wide
-    wide-requires
-    shared-slice-read-wide-2
-    wide-requires-2
-    mul-at
-    add-at
-    loop-holds
-    shared-slice-read-rule-right
-    shared-slice-read-rule-right-2
-    rule-right-requires
-    same-length
-    returns
-    cast-places
-    mul-places
-    slice-write-places
-    add-at-2
-    add-wide
-    mul-wide
-    shared-slice-read-wide-3
-    wide-requires-3
-    add-at-3
-    add-p
-    loop-less
-    loop-again
-    same-length-2
-    returns-2)
+    (tie.spec Inv-loop μ-loop shared-slice-read-wide wide-requires shared-slice-read-wide-2 wide-requires-2 mul-at add-at
+    loop-holds shared-slice-read-rule-right shared-slice-read-rule-right-2 rule-right-requires same-length returns cast-places
+    mul-places slice-write-places add-at-2 add-wide mul-wide shared-slice-read-wide-3 wide-requires-3 add-at-3 add-p loop-less
+    loop-again same-length-2 returns-2)

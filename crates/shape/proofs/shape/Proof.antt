@@ -1,5 +1,5 @@
 -- `shape::shape` meets its contract: each part is tested in turn, and all together are the shape.
-use Rattle.shape.specs.Parts.{header-of, ready}
+use Rattle.shape.specs.Parts.{header-of, terminals-of, ready}
 use Rattle.shape.proofs.Placing.{shut-out}
 use borrow.Author.Needs.{needs}
 use Rattle.shape.proofs.shape.Statement.{statement}
@@ -15,7 +15,7 @@ terminals-right-requires : tie.Need-terminals-right-requires
 terminals-right-requires c κs = c .before .header-right .ensures .yes (c .if1 .taken)
 
 returns-2 : tie.Need-returns-2
-returns-2 c = shut-out (λ s. c .before .terminals-right .ensures .no (c .if2 .left) (s .terminals))
+returns-2 c = shut-out (λ s. c .before .terminals-right .ensures .no (c .if2 .left) (terminals-of _ s))
 
 rules-right-requires : tie.Need-rules-right-requires
 rules-right-requires c κs =
@@ -44,11 +44,4 @@ returns-3 c =
 pub shape-spec : {M : Type 1} → statement M
 shape-spec =
     tie.close
-    (tie.spec
-    header-right-requires
-    returns
-    terminals-right-requires
-    returns-2
-    rules-right-requires
-    same-length
-    returns-3)
+    (tie.spec header-right-requires returns terminals-right-requires returns-2 rules-right-requires same-length returns-3)

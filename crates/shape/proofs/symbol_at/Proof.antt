@@ -1,37 +1,23 @@
 -- `shape::symbol_at` meets its contract: by the words behind these two.
+use native.Mathlib.Omega.{arith}
+use Rattle.shape.specs.Inside.{right-small}
 use Rattle.shape.proofs.Reading.{symbol-there}
 use borrow.Author.Needs.{needs}
 use Rattle.shape.proofs.symbol_at.Statement.{statement}
 use Rattle.shape.proofs.symbol_at.Tie as tie
 
-start-of-requires : tie.Need-start-of-requires
-start-of-requires c κs = search needs
+add-rule-word : tie.Need-add-rule-word
+add-rule-word c =
+    let pre = c .before .before .pre in
+    omega (arith, right-small _ (pre .0 .shaped) _ (pre .1 .0))
 
-add-result : tie.Need-add-result
-add-result c = search needs
-
-add-result-2 : tie.Need-add-result-2
-add-result-2 c = search needs
-
-mul-result : tie.Need-mul-result
-mul-result c = search needs
-
-shared-slice-read-result : tie.Need-shared-slice-read-result
-shared-slice-read-result c = search needs
+rule-word-requires : tie.Need-rule-word-requires
+rule-word-requires c κs = search needs
 
 returns : tie.Need-returns
 returns c =
-    let start = c .before .before .before .before in
-    let pre = start .pre in
-    symbol-there _ (pre .0 .shaped) _ (pre .1 .0) _ (c .before .start-of .ensures) _ (pre .1 .1)
+    let pre = c .before .before .before .pre in
+    symbol-there _ (pre .0 .shaped) _ (pre .1 .0) _ _ (pre .1 .1) (c .rule-word .ensures)
 
 pub symbol-at-spec : {M : Type 1} → statement M
-symbol-at-spec =
-    tie.close
-    (tie.spec
-    start-of-requires
-    add-result
-    add-result-2
-    mul-result
-    shared-slice-read-result
-    returns)
+symbol-at-spec = tie.close (tie.spec add-rule-word rule-word-requires returns)

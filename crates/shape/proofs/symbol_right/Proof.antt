@@ -1,6 +1,6 @@
 -- `shape::symbol_right` meets its contract: by the two cases of `RuleSymbol`.
 use native.Mathlib.Omega.{arith}
-use Rattle.sets.specs.Telling.{told, denied}
+use Rattle.base.specs.Telling.{told, denied}
 use Rattle.grammar.specs.Words.{RuleSymbol}
 use Rattle.shape.proofs.Judging.{symbol-some, symbol-high, symbol-tells}
 use Rattle.shape.proofs.symbol_right.Statement.{statement}

@@ -1,7 +1,7 @@
 -- `shape::symbols_right` meets its contract: the symbols in front of i are right. The measure is what is left.
 use borrow.Author.Needs.{needs}
 use native.Mathlib.Omega.{arith}
-use Rattle.sets.specs.Telling.{told, denied}
+use Rattle.base.specs.Telling.{told, denied}
 use Prim.Native.Nat.{ℕ, _+_, _-_, _<_}
 use borrow.Author.Count.{below-more}
 use Rattle.grammar.specs.Words.{word, RuleSymbol}
@@ -51,16 +51,5 @@ returns-2 c = told (λ j below. c .before .loop .inv j (omega arith))
 pub symbols-right-spec : {M : Type 1} → statement M
 symbols-right-spec =
     tie.close
-    (tie.spec
-    Inv-loop
-    μ-loop
-    loop-holds
-    add-symbol-right
-    mul-symbol-right
-    shared-slice-read-symbol-right
-    symbol-right-requires
-    returns
-    add-i
-    loop-less
-    loop-again
-    returns-2)
+    (tie.spec Inv-loop μ-loop loop-holds add-symbol-right mul-symbol-right shared-slice-read-symbol-right symbol-right-requires
+    returns add-i loop-less loop-again returns-2)

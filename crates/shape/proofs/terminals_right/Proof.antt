@@ -1,16 +1,15 @@
 -- `shape::terminals_right` meets its contract: the words of the terminals in front of t are right. The measure is what is left.
 use borrow.Author.Needs.{needs}
 use native.Mathlib.Omega.{arith}
-use Rattle.sets.specs.Telling.{told, denied}
+use Rattle.base.specs.Telling.{told, denied}
 use Prim.Native.Nat.{ℕ, _-_, _≤_, _<_}
 use borrow.Author.Count.{below-more}
-use Rattle.grammar.specs.Words.{TerminalWords}
-use Rattle.shape.proofs.Judging.{terminal-words, terminal-cost, terminal-reliability}
+use Rattle.shape.specs.Parts.{TerminalRight}
 use Rattle.shape.proofs.terminals_right.Statement.{statement}
 use Rattle.shape.proofs.terminals_right.Tie as tie
 
 abbrev Inv-loop : tie.InvT-loop
-Inv-loop words count t₀ t = (1 ≤ t) × ((k : ℕ) → k < t → 1 ≤ k → TerminalWords words k)
+Inv-loop words count t₀ t = (1 ≤ t) × ((k : ℕ) → k < t → 1 ≤ k → TerminalRight words k)
 
 abbrev μ-loop : tie.MeasureT-loop
 μ-loop words count t₀ t = count - t
@@ -42,7 +41,7 @@ between-requires c κs = search needs
 returns : tie.Need-returns Inv-loop μ-loop
 returns c =
     let turn = c .before .before .before .before in
-    denied (λ all. c .before .between .ensures .no (c .if1 .left) (terminal-cost (all _ (turn .loop .inv .0) (omega arith))))
+    denied (λ all. c .before .between .ensures .no (c .if1 .left) (all _ (turn .loop .inv .0) (omega arith) .cost))
 
 mul-between-3 : tie.Need-mul-between-3 Inv-loop μ-loop
 mul-between-3 c = search needs
@@ -65,7 +64,7 @@ between-requires-2 c κs = search needs
 returns-2 : tie.Need-returns-2 Inv-loop μ-loop
 returns-2 c =
     let turn = c .before .before .before .before .before .before .before in
-    denied (λ all. c .before .between2 .ensures .no (c .if2 .left) (terminal-reliability (all _ (turn .loop .inv .0) (omega arith))))
+    denied (λ all. c .before .between2 .ensures .no (c .if2 .left) (all _ (turn .loop .inv .0) (omega arith) .reliability))
 
 add-t : tie.Need-add-t Inv-loop μ-loop
 add-t c = search needs
@@ -80,7 +79,7 @@ loop-again c =
     let turn = at-between .before .before .before in
     let cost = at-between .between .ensures .yes (at-if1 .if1 .taken) in
     let reliability = c .before .between2 .ensures .yes (c .if2 .taken) in
-    (omega arith, below-more _ _ (turn .loop .inv .1) (λ _. terminal-words cost reliability))
+    (omega arith, below-more _ _ (turn .loop .inv .1) (λ _. record { cost = cost; reliability = reliability }))
 
 returns-3 : tie.Need-returns-3 Inv-loop μ-loop
 returns-3 c = told (λ k above below. c .before .loop .inv .1 k (omega arith) above)
@@ -88,26 +87,6 @@ returns-3 c = told (λ k above below. c .before .loop .inv .1 k (omega arith) ab
 pub terminals-right-spec : {M : Type 1} → statement M
 terminals-right-spec =
     tie.close
-    (tie.spec
-    Inv-loop
-    μ-loop
-    shared-slice-read-wide
-    wide-requires
-    loop-holds
-    mul-between
-    add-between
-    mul-between-2
-    shared-slice-read-between
-    between-requires
-    returns
-    mul-between-3
-    add-between-2
-    add-between-3
-    mul-between-4
-    shared-slice-read-between-2
-    between-requires-2
-    returns-2
-    add-t
-    loop-less
-    loop-again
-    returns-3)
+    (tie.spec Inv-loop μ-loop shared-slice-read-wide wide-requires loop-holds mul-between add-between mul-between-2
+    shared-slice-read-between between-requires returns mul-between-3 add-between-2 add-between-3 mul-between-4
+    shared-slice-read-between-2 between-requires-2 returns-2 add-t loop-less loop-again returns-3)

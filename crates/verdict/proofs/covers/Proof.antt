@@ -6,7 +6,7 @@ use mathlib.Core.Path.{_≡_, sym, _∙_}
 use mathlib.Core.Bool.{true, true≢false}
 use borrow.Author.Count.{below-more}
 use Rattle.sets.specs.Bits.{member}
-use Rattle.sets.specs.Telling.{told, denied}
+use Rattle.base.specs.Telling.{told, denied}
 use Rattle.verdict.proofs.covers.Statement.{statement}
 use Rattle.verdict.proofs.covers.Tie as tie
 

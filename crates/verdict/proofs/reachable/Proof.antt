@@ -1,5 +1,5 @@
 -- `verdict::reachable` meets its contract: the set is exact, so that it tells whether all are in it.
-use Rattle.sets.specs.Telling.{tells-as}
+use Rattle.base.specs.Telling.{tells-as}
 use borrow.Author.Needs.{needs}
 use Rattle.verdict.proofs.reachable.Statement.{statement}
 use Rattle.verdict.proofs.reachable.Tie as tie

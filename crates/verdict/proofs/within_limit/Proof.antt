@@ -4,7 +4,7 @@ use native.Mathlib.Omega.{arith}
 use Prim.Native.Nat.{ℕ, _+_, _<_, _≤_, _-_}
 use borrow.Author.Count.{below-more}
 use lib.ListN.{getD}
-use Rattle.sets.specs.Telling.{told, denied}
+use Rattle.base.specs.Telling.{told, denied}
 use Rattle.verdict.proofs.within_limit.Statement.{statement}
 use Rattle.verdict.proofs.within_limit.Tie as tie
 
@@ -14,6 +14,12 @@ Inv-loop words costs count k₀ k = (j : ℕ) → j < k → getD costs (64 + j) 
 abbrev μ-loop : tie.MeasureT-loop
 μ-loop words costs count k₀ k = count - k
 
+-- In a turn, k is a nonterminal's number.
+low : (c : tie.In-loop Inv-loop μ-loop) → c .before .loop .k < 64
+low c =
+    let n = c .before .before .nonterminal-count .ensures in
+    omega (arith, c .loop-test .taken, c .before .before .before .before .before .pre .0 .nonterminals-high)
+
 nonterminal-count-requires : tie.Need-nonterminal-count-requires Inv-loop μ-loop
 nonterminal-count-requires c κs = c .before .before .pre .0
 
@@ -21,25 +27,13 @@ loop-holds : tie.Need-loop-holds Inv-loop μ-loop
 loop-holds c = λ j h. absurd (omega arith)
 
 add-if1 : tie.Need-add-if1 Inv-loop μ-loop
-add-if1 c =
-    let nonterminal-count = c .before .before .nonterminal-count in
-    let start = c .before .before .before .before .before in
-    let n = nonterminal-count .ensures in
-    omega (arith, start .pre .0 .nonterminals-high)
+add-if1 c = omega (arith, low c)
 
 mul-if1 : tie.Need-mul-if1 Inv-loop μ-loop
-mul-if1 c =
-    let nonterminal-count = c .before .before .nonterminal-count in
-    let start = c .before .before .before .before .before in
-    let n = nonterminal-count .ensures in
-    omega (arith, start .pre .0 .nonterminals-high)
+mul-if1 c = omega (arith, low c)
 
 shared-slice-read-if1 : tie.Need-shared-slice-read-if1 Inv-loop μ-loop
-shared-slice-read-if1 c =
-    let nonterminal-count = c .before .before .before .nonterminal-count in
-    let start = c .before .before .before .before .before .before in
-    let n = nonterminal-count .ensures in
-    omega (arith, start .pre .0 .nonterminals-high, start .pre .1 .size)
+shared-slice-read-if1 c = omega (arith, low (c .before), c .before .before .before .before .before .before .pre .1 .size)
 
 returns : tie.Need-returns Inv-loop μ-loop
 returns c =

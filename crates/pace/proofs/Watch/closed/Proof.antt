@@ -1,28 +1,26 @@
--- `pace::Watch::closed` meets its contract: with an open cycle and without one.
+-- `pace::Watch::closed` meets its contract: the struct that it makes is `closedBy`'s of an open cycle.
 use borrow.Author.Needs.{needs}
-use Rattle.pace.proofs.Passing.{closed-begun, closed-idle}
+use Rattle.pace.proofs.Passing.{closed-begun}
 use Rattle.pace.proofs.Watch.closed.Statement.{statement}
 use Rattle.pace.proofs.Watch.closed.Tie as tie
 
 add-self : tie.Need-add-self
 add-self c = search needs
 
-time-ms-requires : tie.Need-time-ms-requires
-time-ms-requires c κs = search needs
+time-requires : tie.Need-time-requires
+time-requires c κs = search needs
+
+cast-self : tie.Need-cast-self
+cast-self c = search needs
 
 add-self-2 : tie.Need-add-self-2
 add-self-2 c = search needs
 
 returns : tie.Need-returns
 returns c =
-    let start = c .before .before .before .before .args in
-    let time = c .before .time-ms in
-    closed-begun (start .unit) (start .tick) (time .result) (start .self) (c .before .before .before .if1 .taken) (time .ensures .0)
-
-returns-2 : tie.Need-returns-2
-returns-2 c =
-    let start = c .before .args in
-    closed-idle (start .unit) (start .tick) (start .self) (c .if1 .left)
+    let start = c .before .before .before in
+    let time = c .before .time in
+    closed-begun (start .args .tick) (time .result) (start .args .self) (start .pre .1) (time .ensures)
 
 pub closed-spec : {M : Type 1} → statement M
-closed-spec = tie.close (tie.spec add-self time-ms-requires add-self-2 returns returns-2)
+closed-spec = tie.close (tie.spec add-self time-requires cast-self add-self-2 returns)

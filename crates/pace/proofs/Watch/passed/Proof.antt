@@ -6,7 +6,7 @@ use mathlib.Core.Bool.{cond}
 use mathlib.Core.Logic.{⊎-elim}
 use lib.Dec.{eqb}
 use Rattle.pace.specs.Watch.{Small, spoiledBy, closedBy}
-use Rattle.pace.proofs.Passing.{cond-true, cond-false, passed-deleted, passed-kept, small-spoiled}
+use Rattle.pace.proofs.Passing.{cond-true, cond-false, closed-idle, passed-deleted, passed-kept, small-spoiled}
 use Rattle.pace.proofs.Watch.passed.Statement.{statement}
 use Rattle.pace.proofs.Watch.passed.Tie as tie
 
@@ -21,14 +21,20 @@ spoiled-is c =
     (c .if1 .came)
 
 -- The watch behind the closing mark.
-closed-is : (c : tie.Joined3) →
-    let start = c .before .before .before .before .args in
-    let v = c .before .before .before .if1 .watch in
-    c .if3 .watch ≡ cond (eqb (start .token) (start .marks .closing)) (closedBy (start .marks .unit) (start .tick) v) v
+closed-is : (c : tie.Joined3-2) →
+    let start = c .before .before .before .args in
+    let v = c .before .before .if1 .watch in
+    c .if3 .watch ≡ cond (eqb (start .token) (start .marks .closing)) (closedBy (start .tick) v) v
 closed-is c =
+    let start = c .before .before .before .args in
     ⊎-elim
-    (λ w. w .2 ∙ (w .1 .ensures ∙ sym (cond-true _ _ _ (eq-eqb _ _ (w .0 .taken)))))
-    (λ w. w .1 ∙ sym (cond-false _ _ _ (ne-eqb _ _ (w .0 .left))))
+    (λ w. w .4 ∙ (w .3 .ensures ∙ sym (cond-true _ _ _ (w .2 .taken))))
+    (λ w.
+    w .1
+    ∙ ⊎-elim
+    (λ n. sym (cond-false _ _ _ (n .2 .left)))
+    (λ n. closed-idle (eqb (start .token) (start .marks .closing)) (start .tick) (c .before .before .if1 .watch) (n .left))
+    (w .0 .came))
     (c .if3 .came)
 
 spoiled-requires : tie.Need-spoiled-requires
@@ -42,9 +48,10 @@ returns c =
 
 closed-requires : tie.Need-closed-requires
 closed-requires c κs =
-    let joined = c .before .before .before in
+    let begun = c .before .before in
+    let joined = begun .before .before in
     let start = joined .before in
-    subst Small (sym (spoiled-is joined)) (small-spoiled (start .args .here .edited) (start .args .self) (start .pre))
+    (subst Small (sym (spoiled-is joined)) (small-spoiled (start .args .here .edited) (start .args .self) (start .pre)), begun .if3 .taken)
 
 opened-requires : tie.Need-opened-requires
 opened-requires c κs = search needs
@@ -52,20 +59,20 @@ opened-requires c κs = search needs
 returns-2 : tie.Need-returns-2
 returns-2 c =
     let joined = c .before .before .before in
-    let left = joined .before .before in
+    let left = joined .before in
     let start = left .before .before .args in
     passed-kept (start .marks) (start .here) (start .token) (start .tick) (start .self) (left .before .if1 .watch) (joined .if3 .watch)
     (c .opened .result) (left .if2 .left) (spoiled-is (left .before)) (closed-is joined)
-    (c .opened .ensures ∙ sym (cond-true _ _ _ (eq-eqb _ _ (c .before .if4 .taken))))
+    (c .opened .ensures ∙ sym (cond-true _ _ _ (eq-eqb _ _ (c .before .if5 .taken))))
 
 returns-3 : tie.Need-returns-3
 returns-3 c =
     let joined = c .before .before in
-    let left = joined .before .before in
+    let left = joined .before in
     let start = left .before .before .args in
     passed-kept (start .marks) (start .here) (start .token) (start .tick) (start .self) (left .before .if1 .watch) (joined .if3 .watch)
     (joined .if3 .watch) (left .if2 .left) (spoiled-is (left .before)) (closed-is joined)
-    (sym (cond-false _ _ _ (ne-eqb _ _ (c .if4 .left))))
+    (sym (cond-false _ _ _ (ne-eqb _ _ (c .if5 .left))))
 
 pub passed-spec : {M : Type 1} → statement M
 passed-spec =

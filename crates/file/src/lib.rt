@@ -1,0 +1,265 @@
+// The reader of grammar files: document 01, "The grammar file", and refusals 1 to 4.
+ghost use mathlib.Core.Path.{_≡_};
+ghost use Prim.Native.Nat.{_+_, _*_, _≤_, _<_};
+ghost use lib.ListN.{length};
+ghost use Rattle.base.specs.Telling.{Tells};
+ghost use Rattle.grammar.specs.File.{
+  BlockFields,
+  EachBlock,
+  FileRead,
+  FileSize,
+  UseCount,
+  blockCount,
+  fileWords,
+  pairAt,
+  weightedSum,
+  wordsUsed,
+};
+ghost use Rattle.file.specs.Answer.{
+  CheckRight,
+  UnusedZero,
+  begun,
+  blockWords,
+  readingOf,
+  written,
+};
+use grammar::Refusal;
+
+// The answer: the number of words read, or a refusal. `readingOf` of specs/Answer.antt says what each stands for.
+pub enum Reading {
+    Words(usize),
+    Refused(Refusal),
+}
+
+// Document 01, "The grammar file". A block's number stands in its first two bytes.
+const BLOCK_BYTES: usize = 512;
+
+// Where a block's use count stands.
+const USE_COUNT: usize = 2;
+
+// Where a block's words begin, and how many it has.
+const FIRST_WORD: usize = 4;
+
+const BLOCK_WORDS: usize = 253;
+
+// Where a block's check stands: it is of all bytes before it.
+const CHECK: usize = 510;
+
+const MODULUS: u32 = 65521;
+
+// Eleven blocks.
+const LARGEST_FILE: usize = 5632;
+
+// Reads the file's words into the buffer, behind which it is zero; or gives the lowest refusal of 1 to 4 that applies,
+// and the whole buffer is zero. The buffer is cleared first, so that no refusal can leave an old word in it.
+pub fn read(bytes: &[u8], words: &mut [u16]) -> Reading
+    ensures { λ r. ⌜ FileRead (now (bytes .entry)) (length (now (words .entry))) (readingOf r) (now (words .exit)) ⌝ }
+{
+    base::clear_words(words, 0);
+    if size_right(bytes.len()) {} else {
+        return Reading::Refused(Refusal::BadSize);
+    }
+    if checks_right(bytes) {} else {
+        return Reading::Refused(Refusal::BadCheck);
+    }
+    if blocks_right(bytes) {} else {
+        return Reading::Refused(Refusal::BadBlock);
+    }
+    let count = word_count(bytes);
+    if words.len() < count {
+        return Reading::Refused(Refusal::ShortWords);
+    }
+    copy_blocks(bytes, words);
+    Reading::Words(count)
+}
+
+// ---- Refusal 1
+
+// The file is not empty, a multiple of 512, and not over 5,632 bytes.
+fn size_right(size: usize) -> bool
+    ensures { λ r. ⌜ Tells (FileSize size) r ⌝ }
+{
+    if size == 0 {
+        return false;
+    }
+    if size % BLOCK_BYTES != 0 {
+        return false;
+    }
+    size <= LARGEST_FILE
+}
+
+// ---- Refusal 2
+
+// Every block's check, in one pass: no byte is summed twice.
+fn checks_right(bytes: &[u8]) -> bool
+    ensures { λ r. ⌜ Tells (EachBlock (now (bytes .entry)) (CheckRight (now (bytes .entry)))) r ⌝ }
+{
+    let count = bytes.len() / BLOCK_BYTES;
+    let mut k = 0;
+    while k < count {
+        if check_right(bytes, k) {} else {
+            return false;
+        }
+        k += 1;
+    }
+    true
+}
+
+// The check of block k: the sum modulo 65,521 stands in the block's last two bytes.
+fn check_right(bytes: &[u8], k: usize) -> bool
+    requires { ⌜ k < blockCount (now bytes) ⌝ }
+    ensures { λ r. ⌜ Tells (CheckRight (now (bytes .entry)) k) r ⌝ }
+{
+    let start = BLOCK_BYTES * k;
+    let sum = weighted_sum(bytes, start) % MODULUS;
+    pair(bytes, start + CHECK) as u32 == sum
+}
+
+// The sum over the first 510 bytes of a block. It is at most 510 * 510 * 255, so a u32 holds it before the modulus.
+fn weighted_sum(bytes: &[u8], start: usize) -> u32
+    requires { ⌜ start + 510 ≤ length (now bytes) ⌝ }
+    ensures { λ r. ⌜ r ≡ weightedSum (now (bytes .entry)) start 510 ⌝ }
+{
+    let mut sum: u32 = 0;
+    let mut i = 0;
+    while i < CHECK {
+        sum += weighted(i, bytes[start + i]);
+        i += 1;
+    }
+    sum
+}
+
+// (i + 1) x byte i.
+fn weighted(i: usize, byte: u8) -> u32
+    requires { ⌜ i < 510 ⌝ }
+    ensures { λ r. ⌜ r ≡ (i + 1) * byte ⌝ }
+    ensures { λ r. ⌜ r ≤ 130050 ⌝ }
+{
+    (i as u32 + 1) * (byte as u32)
+}
+
+// ---- Refusal 3
+
+// Every block's number, use count and unused words, in one pass.
+fn blocks_right(bytes: &[u8]) -> bool
+    ensures { λ r. ⌜ Tells (EachBlock (now (bytes .entry)) (BlockFields (now (bytes .entry)))) r ⌝ }
+{
+    let count = bytes.len() / BLOCK_BYTES;
+    let mut k = 0;
+    while k < count {
+        if fields_right(bytes, k, count) {} else {
+            return false;
+        }
+        k += 1;
+    }
+    true
+}
+
+// Block number, use count and unused words of block k.
+fn fields_right(bytes: &[u8], k: usize, count: usize) -> bool
+    requires { ⌜ k < blockCount (now bytes) ⌝ }
+    requires { ⌜ count ≡ blockCount (now bytes) ⌝ }
+    ensures { λ r. ⌜ Tells (BlockFields (now (bytes .entry)) k) r ⌝ }
+{
+    if number(bytes, BLOCK_BYTES * k) != k {
+        return false;
+    }
+    let used = number(bytes, BLOCK_BYTES * k + USE_COUNT);
+    if use_count_right(count, k, used) {} else {
+        return false;
+    }
+    unused_zero(bytes, k, used)
+}
+
+// Exactly 253 in every block but the last, 1 to 253 there.
+fn use_count_right(count: usize, k: usize, used: usize) -> bool
+    requires { ⌜ k < count ⌝ }
+    ensures { λ r. ⌜ Tells (UseCount count k used) r ⌝ }
+{
+    if k + 1 < count {
+        return used == BLOCK_WORDS;
+    }
+    if used == 0 {
+        return false;
+    }
+    used <= BLOCK_WORDS
+}
+
+// The words of block k behind the used ones.
+fn unused_zero(bytes: &[u8], k: usize, used: usize) -> bool
+    requires { ⌜ k < blockCount (now bytes) ⌝ }
+    ensures { λ r. ⌜ Tells (UnusedZero (now (bytes .entry)) k used) r ⌝ }
+{
+    let start = BLOCK_BYTES * k + FIRST_WORD;
+    let mut i = used;
+    while i < BLOCK_WORDS {
+        if pair(bytes, start + 2 * i) != 0 {
+            return false;
+        }
+        i += 1;
+    }
+    true
+}
+
+// ---- Refusal 4, and the words
+
+// How many words a file has whose blocks are right: every block but the last is full.
+fn word_count(bytes: &[u8]) -> usize
+    requires { ⌜ 0 < blockCount (now bytes) ⌝ }
+    requires { ⌜ EachBlock (now bytes) (BlockFields (now bytes)) ⌝ }
+    ensures { λ r. ⌜ r ≡ length (fileWords (now (bytes .entry))) ⌝ }
+{
+    let last = bytes.len() / BLOCK_BYTES - 1;
+    BLOCK_WORDS * last + number(bytes, BLOCK_BYTES * last + USE_COUNT)
+}
+
+// Copies the used words of every block to the front of the buffer, in order.
+fn copy_blocks(bytes: &[u8], words: &mut [u16])
+    requires { ⌜ EachBlock (now bytes) (BlockFields (now bytes)) ⌝ }
+    requires { ⌜ length (fileWords (now bytes)) ≤ length (now words) ⌝ }
+    ensures { λ _. ⌜ now (words .exit) ≡ begun (now (words .entry)) (fileWords (now (bytes .entry))) ⌝ }
+{
+    let count = bytes.len() / BLOCK_BYTES;
+    let mut at = 0;
+    let mut k = 0;
+    while k < count {
+        at = copy_block(bytes, k, words, at);
+        k += 1;
+    }
+}
+
+// Copies the used words of block k to the place `at` of the buffer, and gives the place behind them.
+fn copy_block(bytes: &[u8], k: usize, words: &mut [u16], at: usize) -> usize
+    requires { ⌜ k < blockCount (now bytes) ⌝ }
+    requires { ⌜ wordsUsed (now bytes) k ≤ 253 ⌝ }
+    requires { ⌜ at + wordsUsed (now bytes) k ≤ length (now words) ⌝ }
+    ensures { λ r. ⌜ r ≡ at + wordsUsed (now (bytes .entry)) k ⌝ }
+    ensures { λ _. ⌜ now (words .exit) ≡ written (now (words .entry)) at (blockWords (now (bytes .entry)) k) ⌝ }
+{
+    let used = number(bytes, BLOCK_BYTES * k + USE_COUNT);
+    let start = BLOCK_BYTES * k + FIRST_WORD;
+    let mut i = 0;
+    while i < used {
+        words[at + i] = pair(bytes, start + 2 * i);
+        i += 1;
+    }
+    at + used
+}
+
+// ---- Numbers of two bytes
+
+// The little endian number of two bytes, as a word.
+fn pair(bytes: &[u8], at: usize) -> u16
+    requires { ⌜ at + 1 < length (now bytes) ⌝ }
+    ensures { λ r. ⌜ r ≡ pairAt (now (bytes .entry)) at ⌝ }
+{
+    base::pair(bytes[at], bytes[at + 1])
+}
+
+// The same, to count with.
+fn number(bytes: &[u8], at: usize) -> usize
+    requires { ⌜ at + 1 < length (now bytes) ⌝ }
+    ensures { λ r. ⌜ r ≡ pairAt (now (bytes .entry)) at ⌝ }
+{
+    base::wide(pair(bytes, at))
+}

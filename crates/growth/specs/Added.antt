@@ -1,0 +1,64 @@
+-- A list of sets to one of which a mask was added.
+use Prim.Native.Nat.{ℕ, _<_}
+use mathlib.Core.Path.{_≡_, refl, sym, subst}
+use mathlib.Core.Bool.{Bool, true, false, true≢false, false≢true}
+use mathlib.Core.List.{List}
+use mathlib.Core.Logic.{_⊎_, inl, inr, ⊎-elim}
+use native.Mathlib.Omega.{arith}
+use lib.ListN.{length, getD, set, length-set}
+use lib.Seq.{getD-set-same, getD-set-other}
+use Rattle.base.specs.Choices.{same-or}
+use Rattle.sets.specs.Bits.{member}
+use Rattle.sets.specs.Operations.{union}
+use Rattle.sets.specs.Laws.{union-left, union-right, union-cases, union-grows, union-unchanged}
+use Rattle.growth.specs.Sums.{sum, sum-set}
+
+-- The members of `mask` were added to set k, and nothing else; `changed` tells whether one of them was not there.
+pub record Added (old : List ℕ) (k mask : ℕ) (new : List ℕ) (changed : Bool) : Type 0 where
+  pub same : length new ≡ length old
+  pub keeps : (j t : ℕ) → member (getD old j 0) t ≡ true → member (getD new j 0) t ≡ true
+  pub kept : changed ≡ false → new ≡ old
+  pub raised : changed ≡ true → sum old < sum new
+  pub holds : (t : ℕ) → member mask t ≡ true → member (getD new k 0) t ≡ true
+  pub source : (j t : ℕ) → member (getD new j 0) t ≡ true → (member (getD old j 0) t ≡ true) ⊎ ((j ≡ k) × (member mask t ≡ true))
+
+-- Where the union is the set itself, nothing is to be done.
+pub added-nothing : (old : List ℕ) (k mask : ℕ) → union (getD old k 0) mask ≡ getD old k 0 → Added old k mask old false
+added-nothing old k mask e =
+    record {
+      same = refl;
+      keeps = λ j t m. m;
+      kept = λ q. refl;
+      raised = λ q. absurd (false≢true q);
+      holds = λ t m. union-unchanged (getD old k 0) mask e t m;
+      source = λ j t m. inl m;
+    }
+
+module _ (old : List ℕ) (k mask : ℕ) (inside : k < length old) where
+  changed-at : (j : ℕ) → j ≡ k → getD (set old k (union (getD old k 0) mask)) j 0 ≡ union (getD old j 0) mask
+  changed-at j e =
+      subst (λ i. getD (set old k (union (getD old k 0) mask)) i 0 ≡ union (getD old i 0) mask) (sym e)
+      (getD-set-same old k (union (getD old k 0) mask) 0 inside)
+
+  keeps-all : (j t : ℕ) → (j ≡ k) ⊎ (j ≡ k → ⊥) → member (getD old j 0) t ≡ true
+      → member (getD (set old k (union (getD old k 0) mask)) j 0) t ≡ true
+  keeps-all j t (inl e) m = subst (λ s. member s t ≡ true) (sym (changed-at j e)) (union-left (getD old j 0) mask t m)
+  keeps-all j t (inr n) m = subst (λ s. member s t ≡ true) (sym (getD-set-other old k j (union (getD old k 0) mask) 0 n)) m
+
+  comes-from : (j t : ℕ) → (j ≡ k) ⊎ (j ≡ k → ⊥) → member (getD (set old k (union (getD old k 0) mask)) j 0) t ≡ true
+      → (member (getD old j 0) t ≡ true) ⊎ ((j ≡ k) × (member mask t ≡ true))
+  comes-from j t (inl e) m =
+      ⊎-elim inl (λ h. inr (e, h)) (union-cases (getD old j 0) mask t (subst (λ s. member s t ≡ true) (changed-at j e) m))
+  comes-from j t (inr n) m = inl (subst (λ s. member s t ≡ true) (getD-set-other old k j (union (getD old k 0) mask) 0 n) m)
+
+  -- Where it is not, the union is put in its place.
+  pub added-some : (union (getD old k 0) mask ≡ getD old k 0 → ⊥) → Added old k mask (set old k (union (getD old k 0) mask)) true
+  added-some n =
+      record {
+        same = length-set old k (union (getD old k 0) mask);
+        keeps = λ j t m. keeps-all j t (same-or j k) m;
+        kept = λ q. absurd (true≢false q);
+        raised = λ q. omega (arith, n, sum-set old k (union (getD old k 0) mask) inside, union-grows (getD old k 0) mask);
+        holds = λ t m. subst (λ s. member s t ≡ true) (sym (changed-at k refl)) (union-right (getD old k 0) mask t m);
+        source = λ j t m. comes-from j t (same-or j k) m;
+      }

@@ -1,0 +1,100 @@
+use native.Mathlib.Omega.{arith}
+use mathlib.Core.Path.{_≡_}
+use mathlib.Core.Bool.{true}
+use Rattle.parser.specs.Parses.{settled-fits, parses-counts, parses-refused}
+use borrow.Author.Needs.{needs}
+use Rattle.parser.proofs.parse_asking.Statement.{statement}
+use Rattle.parser.proofs.parse_asking.Tie as tie
+use Rattle.parser.proofs.parse_asking.Reads as reads
+use Rattle.parser.proofs.parse_asking.Lts as lts
+use Rattle.base.proofs.clear_words.Reads as clear-words-reads
+use Rattle.parser.proofs.settle.Reads as settle-reads
+
+settle-requires : tie.Need-settle-requires
+settle-requires c κs = search needs
+
+enum-known-answer : tie.Need-enum-known-answer
+enum-known-answer c = search needs
+
+mul-clear-words : tie.Need-mul-clear-words
+mul-clear-words c =
+    let start = c .before .before .before .before .before .before .before .before .before .before .before .before .before .before .before
+    .before in
+    let settle = c .before .before .before .before .before .before .before .before .before .settle in
+    let answer = c .before .before .before .answer in
+    omega (
+      arith,
+      settled-fits (start .args .asked ≡ true) _ _ (start .args .edits .now) (start .args .rules .now) (settle .last .1 .1 .1 .0)
+          (settle .last .1 .1 .1 .1 .0) (settle .ensures) (answer .given .1) .0,
+      start .good,
+    )
+
+clear-words-requires : tie.Need-clear-words-requires
+clear-words-requires c κs = search needs
+
+clear-words-requires-2 : tie.Need-clear-words-requires-2
+clear-words-requires-2 c κs = search needs
+
+enum-known-answer-2 : tie.Need-enum-known-answer-2
+enum-known-answer-2 c = search needs
+
+clear-words-requires-3 : tie.Need-clear-words-requires-3
+clear-words-requires-3 c κs = search needs
+
+clear-words-requires-4 : tie.Need-clear-words-requires-4
+clear-words-requires-4 c κs = search needs
+
+same-length : tie.Need-same-length
+same-length c = search needs
+
+same-length-2 : tie.Need-same-length-2
+same-length-2 c = search needs
+
+returns : tie.Need-returns
+returns c =
+    let start = c .before .before .before .before .before .before .before .before .before .before .before .before .before .before .before
+    .before .before .before .before .before .before .before .before in
+    let settle = c .before .before .before .before .before .before .before .before .before .before .before .before .before .before .before
+    .before .settle in
+    let answer = c .before .before .before .before .before .before .before .before .before .before .answer in
+    let clear-words = c .before .before .before .before .before .before .clear-words in
+    parses-counts (start .args .asked ≡ true) _ _ (start .args .edits .now) (start .args .rules .now) (settle .last .1 .1 .1 .0)
+    (settle .last .1 .1 .1 .1 .0) (settle .ensures) (settle .kept .1 .1 .1 .0) (settle .kept .1 .1 .1 .1 .0) _ _ (answer .given .1)
+    (clear-words .ensures) (c .before .before .clear-words2 .ensures)
+
+same-length-3 : tie.Need-same-length-3
+same-length-3 c = search needs
+
+same-length-4 : tie.Need-same-length-4
+same-length-4 c = search needs
+
+returns-2 : tie.Need-returns-2
+returns-2 c =
+    let start = c .before .before .before .before .before .before .before .before .before .before .before .before .before .before .before
+    .before .before .before .before .before .before .before in
+    let settle = c .before .before .before .before .before .before .before .before .before .before .before .before .before .before .before
+    .settle in
+    let answer2 = c .before .before .before .before .before .before .before .before .before .answer2 in
+    let clear-words3 = c .before .before .before .before .before .before .clear-words3 in
+    parses-refused (start .args .asked ≡ true) _ _ (start .args .edits .now) (start .args .rules .now) (settle .last .1 .1 .1 .0)
+    (settle .last .1 .1 .1 .1 .0) (settle .ensures) (settle .kept .1 .1 .1 .0) (settle .kept .1 .1 .1 .1 .0) _ _ (answer2 .given .1)
+    (clear-words3 .ensures) (c .before .before .clear-words4 .ensures)
+
+pub parse-asking-spec : {M : Type 1} → statement M
+parse-asking-spec =
+    tie.close
+    (tie.spec
+    settle-requires
+    enum-known-answer
+    mul-clear-words
+    clear-words-requires
+    clear-words-requires-2
+    enum-known-answer-2
+    clear-words-requires-3
+    clear-words-requires-4
+    same-length
+    same-length-2
+    returns
+    same-length-3
+    same-length-4
+    returns-2)

@@ -1,2 +1,0 @@
--- What the program's functions promise each other.
-pub mod Shown

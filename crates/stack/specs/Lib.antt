@@ -1,5 +1,0 @@
-pub mod Pile
-pub mod Windows
-pub mod Tests
-pub mod Ways
-pub mod Push
