@@ -1,9 +1,9 @@
-/* A bench that links the library: each function once, then an idle station and three refusals.
+/* A bench that links the library: each function once, then an idle station and four refusals. `examples/bench` builds and runs it; on an
+ * x86-64 Linux that is
  *
  *    ./library
  *    cc -Iinclude examples/bench.c target/libodhrashup.a -o bench && ./bench
- *
- * The library is for x86-64 Linux. */
+ */
 #include <odhrashup.h>
 #include <stdio.h>
 
@@ -31,8 +31,8 @@ static void make_file(uint8_t *block) {
 /* The status decides what is shown. An idle station has no figure, and a refusal has a number only. */
 static void show(const char *what, uint32_t status, const uint64_t *counts, const double *mean) {
     if (status == 0)
-        printf("%s: %llu clean cycles, %llu ms in all, mean %.1f ms\n", what, (unsigned long long)counts[0],
-               (unsigned long long)counts[1], mean[0]);
+        printf("%s: %llu clean cycles, %llu ms in all, mean %.1f ms\n", what, (unsigned long long)counts[ODHRASHUP_PACE_CYCLES],
+               (unsigned long long)counts[ODHRASHUP_PACE_MS], mean[0]);
     else if (status == ODHRASHUP_IDLE)
         printf("%s: idle, mean[0] is %s\n", what, mean[0] != mean[0] ? "NaN" : "a number");
     else
@@ -41,8 +41,8 @@ static void show(const char *what, uint32_t status, const uint64_t *counts, cons
 
 int main(void) {
     static uint8_t file[512];
-    static uint16_t words[2783], edits[24576], rules[16384];
-    uint64_t counts[3];
+    static uint16_t words[ODHRASHUP_WORDS_ENOUGH], edits[ODHRASHUP_EDITS_LENT], rules[ODHRASHUP_RULES_LENT];
+    uint64_t counts[ODHRASHUP_PARSE_COUNTS];
     double mean[1];
 
     /* start start pole crimp done: the first cycle lost all but its start. */
@@ -52,16 +52,18 @@ int main(void) {
 
     make_file(file);
     uint32_t status = odhrashup_read(file, LEN(file), words, LEN(words), counts, LEN(counts));
-    size_t n = (size_t)counts[0];
+    size_t n = (size_t)counts[ODHRASHUP_READ_WORDS];
     printf("read: status %u, %zu words\n", status, n);
 
     printf("check: status %u\n", odhrashup_check(words, n));
 
     status = odhrashup_parse(words, n, log, LEN(log), edits, LEN(edits), rules, LEN(rules), counts, LEN(counts));
-    printf("parse: status %u, %llu moves, %llu edits, %llu rules\n", status, (unsigned long long)counts[0],
-           (unsigned long long)counts[1], (unsigned long long)counts[2]);
-    for (uint64_t i = 0; i < counts[1]; i++)
-        printf("  %s symbol %u at place %u\n", edits[3 * i] == 1 ? "delete" : "insert", edits[3 * i + 2], edits[3 * i + 1]);
+    printf("parse: status %u, %llu moves, %llu edits, %llu rules\n", status, (unsigned long long)counts[ODHRASHUP_PARSE_MOVES],
+           (unsigned long long)counts[ODHRASHUP_PARSE_EDITS], (unsigned long long)counts[ODHRASHUP_PARSE_RULES]);
+    for (uint64_t i = 0; i < counts[ODHRASHUP_PARSE_EDITS]; i++) {
+        const uint16_t *edit = edits + ODHRASHUP_EDIT_WORDS * i;
+        printf("  %s symbol %u at place %u\n", edit[0] == ODHRASHUP_DELETE ? "delete" : "insert", edit[2], edit[1]);
+    }
 
     status = odhrashup_pace(words, n, log, LEN(log), ticks, LEN(ticks), edits, LEN(edits), rules, LEN(rules), counts,
                             LEN(counts), mean, LEN(mean));
@@ -82,7 +84,7 @@ int main(void) {
 
     file[9] ^= 1;
     status = odhrashup_read(file, LEN(file), words, LEN(words), counts, LEN(counts));
-    printf("a damaged file: refused %u, %llu words\n", status, (unsigned long long)counts[0]);
+    printf("a damaged file: refused %u, %llu words\n", status, (unsigned long long)counts[ODHRASHUP_READ_WORDS]);
     printf("no words: refused %u\n", odhrashup_check(words, 0));
     return 0;
 }

@@ -1,7 +1,15 @@
 /* Odhrashup: a proved cycle time analyser for workshop benches.
  *
- * Every function takes any content and any lengths, asks nothing beforehand and always answers. A pointer stands with the
- * number of elements behind it; with 0 elements it is not read or written. Inputs never change.
+ * Every function takes any content and any lengths, asks nothing of them beforehand and always answers. Inputs never change.
+ * What C cannot check is asked of the caller:
+ *  - A pointer stands with the number of elements behind it. It must be valid for that many: aligned for its type, to be read,
+ *    and where it is not const to be written. With 0 elements it is not followed, and may be NULL.
+ *  - A buffer that is written must not overlap another buffer of the same call. Two inputs may.
+ * Calls share no state and keep nothing: they may run at the same time in several threads, as long as no call writes what another
+ * reads or writes. They allocate nothing and open nothing.
+ *
+ * Stack: less than 1 KiB for odhrashup_read, 4 KiB for odhrashup_check, 20 KiB for odhrashup_parse and odhrashup_pace, whatever
+ * the input. (Measured, not proved: 104, 2,760, 16,360 and 16,424 bytes.)
  *
  * Each function answers a status: 0, ODHRASHUP_IDLE, or the number of a refusal, 1 to 12:
  *    1 file empty, not a multiple of 512, or over 5,632 bytes      7 a nonterminal derives no terminal string
@@ -9,10 +17,17 @@
  *    3 some block number, use count or unused word is wrong        9 two rules share a predict token
  *    4 the word buffer is shorter than the file's words           10 over 4,096 tokens, a token outside 1..T-1, or
  *    5 grammar words break the shape                                 ticks and tokens differ in number
- *    6 a nonterminal is unreachable                               11 an expand would leave over 256 symbols on the stack
+ *    6 a nonterminal is unreachable                               11 an expand would leave more than 256 symbols on the
+ *                                                                    stack, END counted
  *                                                                 12 the next rule number or edit record does not fit
- * The lowest of 1 to 10 that applies is given; 11 and 12 come from the first move that meets them. A refusal leaves every
- * output buffer all zeros over its whole length. Without a refusal, all elements behind the last one written are zero.
+ * The lowest of 1 to 10 that applies is given; 11 and 12 come from the first move that meets them.
+ *
+ * What is left in a buffer that is written (words, edits, rules, counts, mean), in every element of it:
+ *  - after a refusal zeros, and no more;
+ *  - otherwise the values named below, and zeros behind them. `counts` and `mean` may be shorter than their values, or empty: they get
+ *    those that fit, and this is no refusal. `words`, `edits` and `rules` hold all or the call is refused, by 4 or 12.
+ *
+ * docs/RULES.md has the rules, docs/TRUST.md what is proved of these functions. This header itself is checked by nothing.
  */
 #ifndef ODHRASHUP_H
 #define ODHRASHUP_H
@@ -27,21 +42,63 @@ extern "C" {
 /* The status of a report without a clean cycle: the station is idle and there is no time. */
 #define ODHRASHUP_IDLE 1000u
 
-/* Reads a grammar file. Status 0, or 1 to 4. `words` gets the file's words, counts[0] their number. */
+/* ---- What stands in counts: the places, and how many counts the function gives. */
+
+#define ODHRASHUP_READ_WORDS 0 /* odhrashup_read: the number of words */
+#define ODHRASHUP_READ_COUNTS 1
+
+#define ODHRASHUP_PARSE_MOVES 0 /* odhrashup_parse: moves made */
+#define ODHRASHUP_PARSE_EDITS 1 /* edit records, of three words each */
+#define ODHRASHUP_PARSE_RULES 2 /* rule numbers listed */
+#define ODHRASHUP_PARSE_COUNTS 3
+
+#define ODHRASHUP_PACE_CYCLES 0 /* odhrashup_pace: clean cycles */
+#define ODHRASHUP_PACE_MS 1     /* the sum of their times in ms */
+#define ODHRASHUP_PACE_COUNTS 2
+
+/* ---- What stands in an edit record: kind, place, symbol. A delete has the place and the token of what was left out, an insert the
+ * place r of the token before which its symbol was put. */
+
+#define ODHRASHUP_EDIT_WORDS 3
+#define ODHRASHUP_DELETE 1
+#define ODHRASHUP_INSERT 2
+
+/* ---- Lengths of buffers, in elements */
+
+/* The most tokens that a log may have. */
+#define ODHRASHUP_MOST_TOKENS 4096
+
+/* Enough for the words of every file: eleven blocks of 253. Refusal 4 cannot be given. */
+#define ODHRASHUP_WORDS_ENOUGH 2783
+
+/* Enough for a log of n tokens, n at most ODHRASHUP_MOST_TOKENS, whatever the grammar: that refusal 12 is never given with these is
+ * proved. A record for each of at most 2 + n + 8 x 64 x n moves, and 64 rules for each token. For 4,096 tokens that are 6,303,750 words
+ * (13 MB) and 262,144 words. */
+#define ODHRASHUP_EDITS_ENOUGH(n) ((size_t)ODHRASHUP_EDIT_WORDS * (2 + (size_t)513 * (size_t)(n)))
+#define ODHRASHUP_RULES_ENOUGH(n) ((size_t)64 * (size_t)(n))
+
+/* What the printing program lends: 8,192 records and 16,384 rule numbers. A log that needs more gets refusal 12. */
+#define ODHRASHUP_EDITS_LENT 24576
+#define ODHRASHUP_RULES_LENT 16384
+
+/* ---- The functions */
+
+/* Reads a grammar file. Status 0, or 1 to 4. `words` gets the file's words, counts[ODHRASHUP_READ_WORDS] their number. */
 uint32_t odhrashup_read(const uint8_t *bytes, size_t bytes_len, uint16_t *words, size_t words_len, uint64_t *counts,
                         size_t counts_len);
 
 /* Checks grammar words. Status 0 where they are accepted, or 5 to 9. */
 uint32_t odhrashup_check(const uint16_t *words, size_t words_len);
 
-/* Repairs a log. Status 0, or 5 to 12. `edits` gets records of three words (kind 1 delete or 2 insert, place, symbol),
- * `rules` the numbers of the rules applied; counts[0] the moves, counts[1] the edit records, counts[2] the rule numbers. */
+/* Repairs a log. Status 0, or 5 to 12; the grammar words need not have been checked. `edits` gets the edit records in the order of
+ * the moves, `rules` the numbers of the rules applied, `counts` the three of ODHRASHUP_PARSE_.. */
 uint32_t odhrashup_parse(const uint16_t *words, size_t words_len, const uint16_t *log, size_t log_len, uint16_t *edits,
                          size_t edits_len, uint16_t *rules, size_t rules_len, uint64_t *counts, size_t counts_len);
 
-/* Repairs a log and times its clean cycles. Status 0, ODHRASHUP_IDLE, or 5 to 12. `edits` and `rules` as above; counts[0]
- * the clean cycles, counts[1] the sum of their times in ms. mean[0] is the mean in ms where the status is 0, and NaN where the
- * station is idle, so that no figure, old or zero, can be taken for a time. */
+/* Repairs a log and times its clean cycles. Status 0, ODHRASHUP_IDLE, or 5 to 12. `edits` and `rules` as above, `counts` the two of
+ * ODHRASHUP_PACE_.. (how many records and rules there are is not told: kind 0 is no record, and odhrashup_parse has the numbers).
+ * mean[0] is the mean in ms where the status is 0, and NaN where the station is idle, so that no figure, old or zero, can be taken for
+ * a time. After a refusal it is 0. */
 uint32_t odhrashup_pace(const uint16_t *words, size_t words_len, const uint16_t *log, size_t log_len, const uint32_t *ticks,
                         size_t ticks_len, uint16_t *edits, size_t edits_len, uint16_t *rules, size_t rules_len,
                         uint64_t *counts, size_t counts_len, double *mean, size_t mean_len);

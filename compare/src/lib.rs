@@ -9,7 +9,10 @@
 //! * [`implementations`]: the list of those that are compared and measured;
 //! * [`generate`]: seeded inputs of every kind;
 //! * [`differ`]: runs one input on implementations and tells the first difference;
-//! * [`examples`]: the bench examples of document 01, expected results written by hand.
+//! * [`examples`]: the bench examples of document 01, expected results written by hand;
+//! * [`telling`]: inputs shaped by hand, each to tell a wrong reading apart;
+//! * [`steps`]: the stored calls of the test programs;
+//! * [`stored`]: the plain implementation on all that the programs in the gate have stored.
 
 pub mod answer;
 pub mod differ;
@@ -20,4 +23,7 @@ pub mod library;
 #[cfg(feature = "linked")]
 pub mod linked;
 pub mod plain;
+pub mod steps;
+pub mod stored;
+pub mod telling;
 pub mod tuned;

@@ -173,6 +173,9 @@ def named():
     yield eights(938), 8, 'cost 938: START costs 60,032'
     yield words_of([(64, [65] * 8), (65, [66] * 5), (66, [1, 1])], n=3, costs=[0, 750]), 0, 'a cost of exactly 60,000'
     yield words_of([(64, [65] * 8), (65, [66] * 5), (66, [1, 1])], n=3, costs=[0, 751]), 8, 'a cost of 60,080'
+    cheap = [(64, [1, 65]), (64, []), (65, [66] * 8), (66, [2] * 8)]
+    yield words_of(cheap, t=3, n=3, costs=[0, 1, 937]), 0, 'START costs 0, another nonterminal 59,968'
+    yield words_of(cheap, t=3, n=3, costs=[0, 1, 938]), 8, 'START costs 0, another nonterminal 60,032'
     yield words_of([(64, [])], t=1), 0, 'T 1: END alone'
     yield put(words_of([(64, [])], t=1), 0, 0), 5, 'T 0'
     yield words_of([(64, [63])], t=64), 0, 'T 64'

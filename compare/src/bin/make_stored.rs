@@ -2,12 +2,13 @@
 //! them: `make_stored SEED COUNT FOLDER`.
 //!
 //! `inputs.bin` holds for each input its length as a u32, little endian, and its bytes;
-//! `expected.txt` holds the listings one behind the other. Long inputs are few, so that the
-//! files stay small. Exits with 1 when some refusal is missing. Refusal 4 always is: the
-//! program lends as many words as eleven blocks hold.
+//! `expected.txt` holds the listings one behind the other. COUNT seeded inputs come first; long
+//! ones are few, so that the files stay small. Behind them stand those that are shaped to tell wrong
+//! readings apart. Exits with 1 when some refusal is missing. Refusal 4 always is: the program
+//! lends as many words as eleven blocks hold.
 
 use compare::generate::Source;
-use compare::plain;
+use compare::{plain, telling};
 use std::path::PathBuf;
 use std::{env, fs, io, process};
 
@@ -50,6 +51,12 @@ fn main() -> io::Result<()> {
         taken += 1;
         long[refusal] += usize::from(is_long);
         given[refusal] += 1;
+    }
+    for input in telling::inputs() {
+        expected.push_str(&plain::listing(&input));
+        inputs.extend((input.len() as u32).to_le_bytes());
+        inputs.extend(input);
+        taken += 1;
     }
     let folder = PathBuf::from(folder);
     fs::create_dir_all(&folder)?;

@@ -2,7 +2,7 @@
 //!
 //! `self_check SEED COUNT [FIRST]` runs inputs FIRST (0 if not given) to FIRST + COUNT - 1.
 //! At the first difference it prints a reproducer and exits with 1; it also exits with 1 when
-//! some refusal was never met.
+//! some refusal was never met. How far it is goes to standard error.
 
 use compare::differ::{outcome, Outcome};
 use compare::generate::{Input, Source};
@@ -21,9 +21,13 @@ fn main() -> ExitCode {
     };
     let mut others = implementations::all();
     let plain = others.remove(PLAIN);
+    eprintln!("self_check: making the stock of grammars");
     let source = Source::new(seed);
     let mut tally = Tally::default();
     for index in first..first + count {
+        if (index - first) % (count / 20).max(1) == 0 {
+            eprintln!("self_check: {} of {count} inputs", index - first);
+        }
         let input = source.input(index);
         let expected = outcome(plain.as_ref(), &input);
         for other in &others {

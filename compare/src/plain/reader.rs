@@ -26,7 +26,7 @@ pub fn read(file: &[u8], words: &mut [u16]) -> Result<usize, Refusal> {
 /// next".
 fn words_of_file(file: &[u8]) -> Result<Vec<u16>, Refusal> {
     // Refusal 1: "file is empty, not a multiple of 512, or over 5,632 bytes".
-    if file.is_empty() || !file.len().is_multiple_of(BLOCK) || file.len() > LONGEST {
+    if file.is_empty() || file.len() % BLOCK != 0 || file.len() > LONGEST {
         return Err(1);
     }
     let blocks: Vec<&[u8]> = file.chunks(BLOCK).collect();

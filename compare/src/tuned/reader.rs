@@ -31,7 +31,7 @@ pub fn read(file: &[u8], words: &mut [u16]) -> Result<usize, Refusal> {
 /// The number of words in a good file, or refusal 1, 2 or 3.
 fn test(file: &[u8]) -> Result<usize, Refusal> {
     let count = file.len() / BLOCK;
-    if !file.len().is_multiple_of(BLOCK) || !(1..=11).contains(&count) {
+    if file.len() % BLOCK != 0 || !(1..=11).contains(&count) {
         return Err(1);
     }
     let (mut checks, mut fields) = (true, true);

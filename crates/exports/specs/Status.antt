@@ -22,7 +22,7 @@ use Rattle.grammar.specs.declared.Pace.the-variants.{Idle, Mean}
 unfoldable pub fitted : {A : Type 0} → A → ℕ → List A → List A
 fitted blank room xs = take room (xs ++ replicate room blank)
 
--- A buffer of counts: "the counts that fit are written, zeros behind".
+-- A buffer of counts: those that fit are written, zeros behind them.
 abbrev pub counted : ℕ → List ℕ → List ℕ
 counted room ns = fitted 0 room ns
 
@@ -84,7 +84,7 @@ unfoldable pub paceStatus : Pace → ℕ
 paceStatus Idle = 1000
 paceStatus (Mean ms) = 0
 
--- The float of a pace: "an idle answer can't be mistaken for a mean".
+-- The float of a pace: an idle answer cannot be taken for a mean.
 unfoldable pub paceFloat : Pace → Float
 paceFloat Idle = nan
 paceFloat (Mean ms) = ms

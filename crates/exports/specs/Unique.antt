@@ -7,7 +7,7 @@ use mathlib.Core.Option.{Option}
 use lib.Ieee.{Float}
 use Rattle.grammar.specs.Refusals.{Outcome}
 use Rattle.grammar.specs.declared.Refusal.{Refusal}
-use Rattle.grammar.specs.theory.Demands.{verdict-unique, file-read-unique, parsed-unique, reported-unique}
+use Rattle.grammar.specs.theory.Sentences.{verdict-unique, file-read-unique, parsed-unique, reported-unique}
 use Rattle.exports.specs.Status.{
   AnsweredAs,
   CheckedAs,

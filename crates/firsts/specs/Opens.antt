@@ -1,5 +1,5 @@
 -- What a walk over a list from its end finds, by a mask of nonterminals that can be empty and a table of FIRST masks.
-use Prim.Native.Nat.{ℕ, _-_, _≤_, _<_}
+use Prim.Native.Nat.{ℕ, _-_, _^_, _≤_, _<_}
 use mathlib.Core.Path.{_≡_, sym, _∙_, subst}
 use mathlib.Core.Bool.{true, false, true≢false}
 use mathlib.Core.List.{List, [], _∷_}
@@ -10,7 +10,7 @@ use Rattle.grammar.specs.Derivation.{All}
 use Rattle.grammar.specs.theory.Closed.{Begins}
 use Rattle.sets.specs.Bits.{member}
 use Rattle.sets.specs.Operations.{with, union}
-use Rattle.sets.specs.Laws.{empty-none, with-same, with-cases, union-left, union-right, union-cases}
+use Rattle.sets.specs.Laws.{empty-none, with-same, with-cases, union-left, union-right, union-cases, same-members}
 
 -- Token t begins the list, by the masks; or the list can be empty, and t is in `base`, which stands for what is behind.
 pub data Opens (null : ℕ) (firsts : List ℕ) (base t : ℕ) : List ℕ → Type 0 where
@@ -22,6 +22,12 @@ pub data Opens (null : ℕ) (firsts : List ℕ) (base t : ℕ) : List ℕ → Ty
 -- The bits of r are the tokens that begin the list, or what is behind it where the list can be empty.
 pub record FirstWith (null : ℕ) (firsts : List ℕ) (base : ℕ) (α : List ℕ) (r : ℕ) : Type 0 where
   pub exact : (t : ℕ) → (member r t ≡ true) ↔ Opens null firsts base t α
+
+-- A number of 64 bits with these members is one.
+pub first-with-unique : {null base r s : ℕ} {firsts α : List ℕ} → FirstWith null firsts base α r → FirstWith null firsts base α s
+    → r < 2 ^ 64 → s < 2 ^ 64 → r ≡ s
+first-with-unique {r = r} {s = s} p q l m =
+    same-members 64 r s l m (λ t h. q .exact t .1 (p .exact t .0 h)) (λ t h. p .exact t .1 (q .exact t .0 h))
 
 module _ (null : ℕ) (firsts : List ℕ) where
   opens-nil : {base t : ℕ} → Opens null firsts base t [] → member base t ≡ true

@@ -2,3 +2,4 @@
 pub mod Cases
 pub mod Compared
 pub mod Twelve
+pub mod Bound

@@ -1,8 +1,10 @@
--- What follows from the definitions, for every grammar and every log. Open Demands first; the rest stands in the order in
+-- What follows from the definitions, for every grammar and every log. Open Demands first, then Sentences; the rest stands in the order in
 -- which it is proved.
 pub mod Demands
+pub mod Sentences
 pub mod Conditions
 pub mod Outcomes
+pub mod Due
 pub mod Pigeonhole
 pub mod Leftmost
 pub mod Masks
@@ -31,10 +33,14 @@ pub mod Filled
 pub mod Correct
 pub mod Paths
 pub mod Bounded
+pub mod Listed
 pub mod Counted
+pub mod Room
 pub mod Exists
 pub mod Heights
 pub mod Decided
 pub mod Places
 pub mod Rebuilt
 pub mod Kept
+pub mod Told
+pub mod Refused

@@ -1,16 +1,16 @@
 -- A list of sets to one of which a mask was added.
-use Prim.Native.Nat.{ℕ, _<_}
-use mathlib.Core.Path.{_≡_, refl, sym, subst}
+use Prim.Native.Nat.{ℕ, _^_, _<_}
+use mathlib.Core.Path.{_≡_, refl, sym, ap, _∙_, subst}
 use mathlib.Core.Bool.{Bool, true, false, true≢false, false≢true}
 use mathlib.Core.List.{List}
 use mathlib.Core.Logic.{_⊎_, inl, inr, ⊎-elim}
 use native.Mathlib.Omega.{arith}
 use lib.ListN.{length, getD, set, length-set}
-use lib.Seq.{getD-set-same, getD-set-other}
+use lib.Seq.{ext-getD, getD-set-same, getD-set-other}
 use Rattle.base.specs.Choices.{same-or}
 use Rattle.sets.specs.Bits.{member}
 use Rattle.sets.specs.Operations.{union}
-use Rattle.sets.specs.Laws.{union-left, union-right, union-cases, union-grows, union-unchanged}
+use Rattle.sets.specs.Laws.{union-left, union-right, union-cases, union-grows, union-unchanged, same-members}
 use Rattle.growth.specs.Sums.{sum, sum-set}
 
 -- The members of `mask` were added to set k, and nothing else; `changed` tells whether one of them was not there.
@@ -62,3 +62,28 @@ module _ (old : List ℕ) (k mask : ℕ) (inside : k < length old) where
         holds = λ t m. subst (λ s. member s t ≡ true) (sym (changed-at k refl)) (union-right (getD old k 0) mask t m);
         source = λ j t m. comes-from j t (same-or j k) m;
       }
+
+-- ---- Only one answer: of lists of 64 bit numbers, the members fix the numbers
+
+-- What one answer holds the other holds,
+also-held : {old new other : List ℕ} {k mask : ℕ} {a b : Bool} → Added old k mask new a → Added old k mask other b → (j t : ℕ)
+    → member (getD new j 0) t ≡ true → member (getD other j 0) t ≡ true
+also-held {other = other} p q j t m =
+    ⊎-elim
+    (λ h. q .keeps j t h)
+    (λ h. subst (λ i. member (getD other i 0) t ≡ true) (sym (h .0)) (q .holds t (h .1)))
+    (p .source j t m)
+
+-- so that the lists are one,
+pub added-list : {old new other : List ℕ} {k mask : ℕ} {a b : Bool} → Added old k mask new a → Added old k mask other b
+    → ((j : ℕ) → getD new j 0 < 2 ^ 64) → ((j : ℕ) → getD other j 0 < 2 ^ 64) → new ≡ other
+added-list {new = new} {other = other} p q l m =
+    ext-getD 0 new other (p .same ∙ sym (q .same))
+    (λ j h. same-members 64 (getD new j 0) (getD other j 0) (l j) (m j) (also-held p q j) (also-held q p j))
+
+-- and what they tell is.
+pub added-told : {old new : List ℕ} {k mask : ℕ} (a b : Bool) → Added old k mask new a → Added old k mask new b → a ≡ b
+added-told true true p q = refl
+added-told true false p q = absurd (omega (arith, p .raised refl, ap sum (q .kept refl)))
+added-told false true p q = absurd (omega (arith, q .raised refl, ap sum (p .kept refl)))
+added-told false false p q = refl

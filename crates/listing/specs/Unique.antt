@@ -1,8 +1,11 @@
--- An input has one listing: two outputs that `Printed` allows are equal.
-use Prim.Native.Nat.{ℕ}
+-- An input has one listing: two outputs that `Printed` allows are equal. So are the answers of the functions, with every byte of their
+-- buffers.
+use Prim.Native.Nat.{ℕ, _≤_}
+use native.Mathlib.Omega.{arith}
 use mathlib.Core.Path.{_≡_, refl, sym, ap, ap₂, _∙_, subst}
-use mathlib.Core.List.{List}
-use lib.ListN.{length, take}
+use mathlib.Core.List.{List, _++_}
+use lib.ListN.{length, take, drop, take-append-drop}
+use lib.Seq.{take-all, length-take-le}
 use Rattle.grammar.specs.File.{FileRead}
 use Rattle.grammar.specs.Moves.{Move, edits}
 use Rattle.grammar.specs.Run.{Parses}
@@ -12,8 +15,11 @@ use Rattle.grammar.specs.theory.Outcomes.{given-refused, given-same, refused-sa
 use Rattle.grammar.specs.Listing.{Printed, refusedLine, listing, tokensOf}
 use Rattle.grammar.specs.declared.Counts.{Counts}
 use Rattle.grammar.specs.declared.Report.{Report}
+use Rattle.listing.specs.declared.input.Blocks.{Blocks}
+use Rattle.listing.specs.declared.input.Blocks.the-variants.{EndAt, Refused}
+use Rattle.listing.specs.Answer.{Appends, InputCounted, Wrote, blocksOf}
 use Rattle.grammar.specs.theory.Answers.{parses-unique}
-use Rattle.grammar.specs.theory.Demands.{file-read-unique, reported-unique}
+use Rattle.grammar.specs.theory.Sentences.{file-read-unique, reported-unique}
 
 -- Two readings of one file give the same words.
 same-words : {bytes x y : List ℕ} {n m : ℕ} → FileRead bytes 2783 (given n) x → FileRead bytes 2783 (given m) y → take n x ≡ take m y
@@ -34,6 +40,12 @@ module _ {ws vs log ticks x y u v : List ℕ} {editRoom ruleRoom : ℕ} {a b : O
       let other =
       subst (λ ws. Parses (length ticks ≡ length log) ws log editRoom ruleRoom (q .outcome) y v) (sym same) (q .parses) in
       given-same (sym e ∙ (parses-unique (p .parses) other .0 ∙ f))
+
+counted-unique : {input : List ℕ} {o q : Outcome ℕ} → InputCounted input o → InputCounted input q → o ≡ q
+counted-unique (InputCounted.counted c) (InputCounted.counted d) = refl
+counted-unique (InputCounted.counted c) (InputCounted.uncounted n) = absurd (n c)
+counted-unique (InputCounted.uncounted n) (InputCounted.counted c) = absurd (n c)
+counted-unique (InputCounted.uncounted n) (InputCounted.uncounted m) = refl
 
 pub printed-unique : {input a b : List ℕ} → Printed input a → Printed input b → a ≡ b
 printed-unique (Printed.uncounted n) (Printed.uncounted m) = refl
@@ -58,3 +70,33 @@ printed-unique {input} (Printed.listed c f p e) (Printed.listed d g q h) =
     let same = same-words f g in
     ap₂ (λ ms x. listing (length (tokensOf input)) (x .1) (edits ms) (x .0)) (same-moves same p q e h)
     (given-same (same-answer same p q))
+
+-- ---- The functions
+
+-- Where the blocks end.
+pub blocks-unique : {input : List ℕ} (a b : Blocks) → InputCounted input (blocksOf a) → InputCounted input (blocksOf b) → a ≡ b
+blocks-unique (EndAt n) (EndAt m) p q = ap EndAt (given-same (counted-unique p q))
+blocks-unique (EndAt n) (Refused r) p q = absurd (given-refused refl (counted-unique p q))
+blocks-unique (Refused r) (EndAt m) p q = absurd (given-refused refl (counted-unique q p))
+blocks-unique (Refused r) (Refused q) p k = ap Refused (refused-same (counted-unique p k))
+
+-- What was written from the front on: tokens, ticks, lines.
+pub wrote-unique : {old new x y : List ℕ} {n m : ℕ} → Wrote old new x n → Wrote old new y m → (n ≡ m) × (x ≡ y)
+wrote-unique {old} {new} p q =
+    let same = p .number ∙ sym (q .number) in
+    (same, p .holds ∙ (ap (λ k. take (length old) new ++ drop k old) same ∙ sym (q .holds)))
+
+-- What was written behind other bytes.
+pub appends-unique : {before new x y : List ℕ} {at n m : ℕ} → at ≤ length before → Appends before at new x n
+    → Appends before at new y m → (n ≡ m) × (x ≡ y)
+appends-unique {before} {at = at} l p q = wrote-unique (p .goes before (take at before) front) (q .goes before (take at before) front)
+  where
+    small : take (length before) (take at before) ≡ take at before
+    small = take-all (length before) (take at before) (omega (arith, length-take-le at before l))
+
+    front : Wrote before (take at before) before at
+    front =
+        record {
+          number = sym (ap length small ∙ length-take-le at before l);
+          holds = sym (ap (λ t. t ++ drop at before) small ∙ take-append-drop at before);
+        }

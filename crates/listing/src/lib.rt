@@ -5,7 +5,8 @@ ghost use Prim.Native.Nat.{_≤_};
 ghost use lib.ListN.{length};
 ghost use Rattle.grammar.specs.Listing.{Counted, blocksEnd};
 ghost use Rattle.listing.specs.Leads.{Kept, WordsRead};
-ghost use Rattle.listing.specs.Shown.{Shown};
+ghost use Rattle.listing.specs.Answer.{Appends};
+ghost use Rattle.listing.specs.Shown.{Shown, ShownWhole};
 use file::Reading;
 use input::Blocks;
 use pace::Paced;
@@ -13,10 +14,29 @@ use pace::Paced;
 mod input;
 mod lines;
 
-// Puts the listing of the input in front of the buffer, and gives its length.
-pub fn show(input: &[u8], out: &mut [u8]) -> usize
+// Puts the listing of an input in front of the buffer, and gives its length. The room holds the input's first `size` bytes; where it
+// is full, whatever stood behind them decides nothing: 30,216 bytes are the count, 11 blocks and 4,097 entries.
+pub fn show(room: &[u8], size: usize, out: &mut [u8]) -> usize
+    requires { ⌜ 30216 ≤ length (now room) ⌝ }
+    requires { ⌜ size ≤ length (now room) ⌝ }
     requires { ⌜ 155817 ≤ length (now out) ⌝ }
-    ensures { λ r. ⌜ Shown (now (input .entry)) (now (out .exit)) r ⌝ }
+    ensures { λ r. ⌜ ShownWhole (now (room .entry)) size (now (out .entry)) (now (out .exit)) r ⌝ }
+{
+    show_input(&room[..size], out)
+}
+
+// Keeps a part of an input in the room, behind the bytes kept so far and as far as they fit, and gives how many are then kept.
+pub fn keep(room: &mut [u8], size: usize, part: &[u8]) -> usize
+    requires { ⌜ size ≤ length (now room) ⌝ }
+    ensures { λ r. ⌜ Appends (now (room .entry)) size (now (part .entry)) (now (room .exit)) r ⌝ }
+{
+    lines::put_text(room, size, part)
+}
+
+// The listing of an input that was kept whole.
+fn show_input(input: &[u8], out: &mut [u8]) -> usize
+    requires { ⌜ 155817 ≤ length (now out) ⌝ }
+    ensures { λ r. ⌜ Shown (now (input .entry)) (now (out .entry)) (now (out .exit)) r ⌝ }
 {
     let counted = input::blocks_of(input);
     match counted {
@@ -30,7 +50,7 @@ fn show_file(input: &[u8], end: usize, out: &mut [u8]) -> usize
     requires { ⌜ 155817 ≤ length (now out) ⌝ }
     requires { ⌜ Counted (now input) ⌝ }
     requires { ⌜ end ≡ blocksEnd (now input) ⌝ }
-    ensures { λ r. ⌜ Shown (now (input .entry)) (now (out .exit)) r ⌝ }
+    ensures { λ r. ⌜ Shown (now (input .entry)) (now (out .entry)) (now (out .exit)) r ⌝ }
 {
     let mut words = [0u16; 2783];
     let reading = file::read(input::file_of(input), &mut words);
@@ -46,7 +66,7 @@ fn show_log(input: &[u8], end: usize, words: &[u16], out: &mut [u8]) -> usize
     requires { ⌜ Counted (now input) ⌝ }
     requires { ⌜ end ≡ blocksEnd (now input) ⌝ }
     requires { ⌜ WordsRead (now input) (now words) ⌝ }
-    ensures { λ r. ⌜ Shown (now (input .entry)) (now (out .exit)) r ⌝ }
+    ensures { λ r. ⌜ Shown (now (input .entry)) (now (out .entry)) (now (out .exit)) r ⌝ }
 {
     let mut tokens = [0u16; 4097];
     let mut ticks = [0u32; 4097];
@@ -59,7 +79,7 @@ fn show_log(input: &[u8], end: usize, words: &[u16], out: &mut [u8]) -> usize
 fn show_run(input: &[u8], words: &[u16], log: &[u16], ticks: &[u32], out: &mut [u8]) -> usize
     requires { ⌜ 155817 ≤ length (now out) ⌝ }
     requires { ⌜ Kept (now input) (now words) (now log) (now ticks) ⌝ }
-    ensures { λ r. ⌜ Shown (now (input .entry)) (now (out .exit)) r ⌝ }
+    ensures { λ r. ⌜ Shown (now (input .entry)) (now (out .entry)) (now (out .exit)) r ⌝ }
 {
     let mut edits = [0u16; 24576];
     let mut rules = [0u16; 16384];

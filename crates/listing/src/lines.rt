@@ -118,7 +118,7 @@ fn put_field(out: &mut [u8], at: usize, word: &[u8], n: u64) -> usize
     put_decimal(out, next, n)
 }
 
-fn put_text(out: &mut [u8], at: usize, text: &[u8]) -> usize
+pub fn put_text(out: &mut [u8], at: usize, text: &[u8]) -> usize
     requires { ⌜ at ≤ length (now out) ⌝ }
     ensures { λ r. ⌜ Appends (now (out .entry)) at (now (text .entry)) (now (out .exit)) r ⌝ }
 {

@@ -14,7 +14,7 @@ pub record CanCount (p : Parser) : Type 0 where
 abbrev pub started : Parser
 started = record { place = 0; height = 2; moves = 0; records = 0; listed = 0; window = 0 }
 
--- "Match, one pop, next token."
+-- Match: "one pop, next token".
 abbrev pub matchedBy : Parser → Parser
 matchedBy p =
     record {
@@ -26,7 +26,7 @@ matchedBy p =
       window = p .window / 256;
     }
 
--- "Expand: one pop, the right side is pushed, the rule number is listed."
+-- Expand: "one pop, the right side is pushed, the rule number is listed".
 abbrev pub expandedBy : ℕ → ℕ → Parser → Parser
 expandedBy size window p =
     record {
@@ -38,7 +38,7 @@ expandedBy size window p =
       window = window;
     }
 
--- "Drop, one pop, nothing listed."
+-- Drop: "one pop, nothing listed".
 abbrev pub droppedBy : Parser → Parser
 droppedBy p =
     record {

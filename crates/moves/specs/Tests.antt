@@ -19,8 +19,8 @@ beginsBy masks x t = cond (ltb x 64) (eqb x t) (member (getD masks (x - 64) 0) t
 unfoldable pub emptyBy : List ℕ → ℕ → Bool
 emptyBy masks x = cond (ltb x 64) false (member (getD masks 64 0) (x - 64))
 
--- "Top equal to t: match. Top a nonterminal with t in its FIRST: expand. Any other top can be empty: drop. Otherwise t is in
--- error."
+-- "Top equal to t": match. "Top a nonterminal with t in its FIRST": expand. "Any other top can be empty": drop. "Otherwise t is in
+-- error".
 unfoldable pub pickBy : ℕ → Bool → Bool → Pick
 pickBy x begins empty = cond (ltb x 64) (cond begins Match Error) (cond begins Expand (cond empty Drop Error))
 

@@ -46,7 +46,7 @@ impl Parser {
         }
     }
 
-    // "Match, one pop, next token."
+    // Match: "one pop, next token".
     pub fn matched(mut self) -> Self
         requires { ⌜ CanCount self × (1 ≤ self .height) ⌝ }
         ensures { λ r. ⌜ r ≡ matchedBy self ⌝ }
@@ -58,7 +58,7 @@ impl Parser {
         self
     }
 
-    // "Expand: one pop, the right side is pushed, the rule number is listed": `size` symbols are pushed, which the window shows.
+    // Expand: "one pop, the right side is pushed, the rule number is listed". `size` symbols are pushed, which the window shows.
     pub fn expanded(mut self, size: usize, window: u64) -> Self
         requires { ⌜ CanCount self × (1 ≤ self .height) × (size ≤ 256) ⌝ }
         ensures { λ r. ⌜ r ≡ expandedBy size window self ⌝ }
@@ -70,7 +70,7 @@ impl Parser {
         self
     }
 
-    // "Drop, one pop, nothing listed."
+    // Drop: "one pop, nothing listed".
     fn dropped(mut self) -> Self
         requires { ⌜ CanCount self × (1 ≤ self .height) ⌝ }
         ensures { λ r. ⌜ r ≡ droppedBy self ⌝ }

@@ -1,25 +1,20 @@
 -- The theorems to read first: what document 01, "Pace", promises of a report, for all words, logs, ticks and buffers. `Reported`
--- is the contract of the report; each theorem is proved by citing Told.antt.
+-- is the contract of the report; each theorem is proved by citing Told.antt. When it is idle, `Demands` says.
 use Prim.Native.Nat.{ℕ, _-_, _*_, _%_, _≤_, _<_}
 use mathlib.Core.Path.{_≡_, ap}
 use mathlib.Core.List.{List}
-use mathlib.Core.Logic.{_↔_}
-use mathlib.Core.Option.{none}
 use native.Mathlib.Omega.{arith}
 use lib.ListN.{getD}
 use lib.IntN.{pos}
 use lib.Ieee.{binary64, ofInt, toUnsigned}
-use Rattle.grammar.specs.Words.{opening, closing}
-use Rattle.grammar.specs.Moves.{Move}
 use Rattle.grammar.specs.Refusals.{given}
-use Rattle.grammar.specs.Run.{RunOf}
-use Rattle.grammar.specs.Pace.{Span, Clean, unitMs, cycleMs, Reported}
-use Rattle.grammar.specs.declared.Pace.the-variants.{Idle}
+use Rattle.grammar.specs.Pace.{Span, unitMs, cycleMs, Reported}
 use Rattle.grammar.specs.declared.Report.{Report}
 use Rattle.grammar.specs.declared.Counts.{Counts}
-use Rattle.grammar.specs.theory.Demands as Demands
+use Rattle.grammar.specs.theory.Sentences as Sentences
 use Rattle.pace.specs.Answer.{pacedOf, paced-same}
-use Rattle.pace.specs.Told.{told, idle-no-cycle, no-cycle-idle, told-4095, told-most, wrapped-true}
+use Rattle.grammar.specs.theory.Told.{told}
+use Rattle.pace.specs.Told.{told-4095, told-most, wrapped-true}
 use Rattle.pace.specs.Exact.{exact}
 use Rattle.pace.specs.declared.Paced.{Paced}
 
@@ -28,16 +23,11 @@ pub report-unique : {ws log ticks : List ℕ} {editRoom ruleRoom : ℕ} (r s : P
     → Reported ws log ticks editRoom ruleRoom (pacedOf r) x u → Reported ws log ticks editRoom ruleRoom (pacedOf s) y v
     → (r ≡ s) × (x ≡ y) × (u ≡ v)
 report-unique r s p q =
-    let same = Demands.reported-unique p q in
+    let same = Sentences.reported-unique p q in
     (paced-same r s (same .0), same .1, same .2)
 
 module _ {ws log ticks : List ℕ} {editRoom ruleRoom : ℕ} {report : Report} {counts : Counts} {x y : List ℕ}
     (reported : Reported ws log ticks editRoom ruleRoom (given (report, counts)) x y) where
-  -- The station is idle exactly when no clean cycle exists in the run, whose moves are ms.
-  pub idle-exactly : {ms : List Move} → RunOf ws log editRoom ruleRoom ms none
-      → (report .pace ≡ Idle) ↔ ((s : Span) → Clean (opening ws) (closing ws) ms s → ⊥)
-  idle-exactly run = (idle-no-cycle (told reported) run, no-cycle-idle (told reported) run)
-
   -- A log has at most 4,095 clean cycles,
   pub count-bounded : report .count ≤ 4095
   count-bounded = told-4095 (told reported)

@@ -18,7 +18,7 @@ use Rattle.grammar.specs.theory.Good.{Good}
 use Rattle.grammar.specs.theory.Forms.{Ended}
 use Rattle.grammar.specs.theory.States.{LogToken, Live, live-start}
 use Rattle.grammar.specs.theory.Paths.{Path, path-on, path-run, path-live}
-use Rattle.grammar.specs.theory.Folds.{rules-append}
+use Rattle.grammar.specs.theory.Folds.{rules-append, edits-few, rules-few}
 use Rattle.grammar.specs.theory.Counted.{path-counted, path-within, Within}
 use Rattle.grammar.specs.theory.Bounded.{path-moves-bounded}
 use Rattle.grammar.specs.theory.Tables.{Inner, Sized, SymbolOf, Pushes}
@@ -135,24 +135,6 @@ ended-bottom (Ended.also {X = X} {α = α} h s) =
     let e : length (X ∷ α) - 1 ≡ suc (length α - 1) = omega (arith, ended-some s) in
     ap (λ k. getD (X ∷ α) k 0) e ∙ ended-bottom s
 
-edits-few : (ms : List Move) → length (edits ms) ≤ length ms
-unfolding edits
-edits-few [] = omega arith
-edits-few (Move.match a b ∷ ms) = omega (arith, edits-few ms)
-edits-few (Move.expand a ∷ ms) = omega (arith, edits-few ms)
-edits-few (Move.drop a ∷ ms) = omega (arith, edits-few ms)
-edits-few (Move.delete a b ∷ ms) = omega (arith, edits-few ms)
-edits-few (Move.insert a b ∷ ms) = omega (arith, edits-few ms)
-
-rules-few : (ms : List Move) → length (ruleNumbers ms) ≤ length ms
-unfolding ruleNumbers
-rules-few [] = omega arith
-rules-few (Move.match a b ∷ ms) = omega (arith, rules-few ms)
-rules-few (Move.expand a ∷ ms) = omega (arith, rules-few ms)
-rules-few (Move.drop a ∷ ms) = omega (arith, rules-few ms)
-rules-few (Move.delete a b ∷ ms) = omega (arith, rules-few ms)
-rules-few (Move.insert a b ∷ ms) = omega (arith, rules-few ms)
-
 -- Where symbols are left, the run is not over: they are the grammar's, END at the bottom, and there is a token.
 pub record Running (S : Sized) (log stack : List ℕ) (p : Parser) : Type 0 where
   pub symbols : All (SymbolOf S) (pile stack (p .height))
@@ -211,7 +193,7 @@ module _ {S : Sized} {log masks prices sides rows : List ℕ}
   pub listed-fit : p .listed ≤ ruleRoom
   listed-fit = within .listed
 
-  -- "Moves are at most 2 + n + 8 x N x n."
+  -- Moves are at most 2 + n + 8 x N x n.
   pub moves-low : p .moves ≤ 2101250
   moves-low =
       let n = length log in

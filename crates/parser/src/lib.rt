@@ -128,7 +128,7 @@ fn rule_for(words: &[u16], sides: &[u64], rows: &[u16], top: u16, t: u16) -> usi
     0
 }
 
-// "Expand: one pop, the right side is pushed, the rule number is listed"; refusal 11 is tested first, then 12.
+// Expand: "one pop, the right side is pushed, the rule number is listed"; refusal 11 is tested first, then 12.
 fn expand(
     words: &[u16],
     sides: &[u64],

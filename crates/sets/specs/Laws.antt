@@ -5,6 +5,7 @@
 --     with-grows, union-grows                   neither makes the number smaller
 --     with-unchanged, union-unchanged           where they change nothing, what was added was there
 --     some-member                               a set that is not 0 has a member
+--     same-members                              numbers of k bits with the same members are one
 use Prim.Native.Nat.{ℕ, zero, suc, _/_, _%_, _^_, _≤_, _<_, max, min}
 use mathlib.Core.Bool.{true}
 use mathlib.Core.Path.{_≡_, refl, sym, ap, _∙_, subst}
@@ -185,3 +186,24 @@ shared-none a b none both =
     let i = both .number in
     let apart = sym (and-bit a b i) ∙ ap (λ (n : ℕ). bit n i) none ∙ zero-bit i in
     omega (arith, apart, member-bit a i (both .left), member-bit b i (both .right))
+
+-- ---- Sets with the same members
+
+same-bits : (k a b : ℕ) → a < 2 ^ k → b < 2 ^ k → ((i : ℕ) → bit a i ≡ bit b i) → a ≡ b
+same-bits zero a b l m f = omega arith
+same-bits (suc k) a b l m f =
+    let half : a / 2 ≡ b / 2 =
+    same-bits k (a / 2) (b / 2) (half-below k a l) (half-below k b m) (λ i. sym (bit-suc a i) ∙ (f (suc i) ∙ bit-suc b i)) in
+    let low : a % 2 ≡ b % 2 = sym (bit-zero a) ∙ (f 0 ∙ bit-zero b) in
+    omega (arith, div-add-mod' a 2, div-add-mod' b 2)
+
+same-bit : (a b i : ℕ) → (member a i ≡ true → member b i ≡ true) → (member b i ≡ true → member a i ≡ true) → (bit a i ≡ 1) ⊎ (bit a i ≡ 0)
+    → (bit b i ≡ 1) ⊎ (bit b i ≡ 0) → bit a i ≡ bit b i
+same-bit a b i f g (inl x) (inl y) = x ∙ sym y
+same-bit a b i f g (inl x) (inr y) = absurd (omega (arith, member-bit b i (f (bit-member a i x))))
+same-bit a b i f g (inr x) (inl y) = absurd (omega (arith, member-bit a i (g (bit-member b i y))))
+same-bit a b i f g (inr x) (inr y) = x ∙ sym y
+
+pub same-members : (k a b : ℕ) → a < 2 ^ k → b < 2 ^ k → ((i : ℕ) → member a i ≡ true → member b i ≡ true)
+    → ((i : ℕ) → member b i ≡ true → member a i ≡ true) → a ≡ b
+same-members k a b l m f g = same-bits k a b l m (λ i. same-bit a b i (f i) (g i) (bit-cases a i _ refl) (bit-cases b i _ refl))

@@ -34,6 +34,9 @@ pub record LeftOf (ws : List ℕ) (p k : ℕ) : Type 0 where
   pub below : k < nonterminalCount ws
   pub small : k < 64
 
+pub left-of-unique : {ws : List ℕ} {p k j : ℕ} → LeftOf ws p k → LeftOf ws p j → k ≡ j
+left-of-unique a b = omega (arith, a .names, b .names)
+
 -- The right side of rule p has n symbols.
 pub record SizeOf (ws : List ℕ) (p n : ℕ) : Type 0 where
   pub is : n ≡ length (rightSide ws p)

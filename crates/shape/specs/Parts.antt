@@ -3,7 +3,7 @@
 --     ready                               all parts together
 use Prim.Native.Nat.{ℕ, _+_, _*_, _≤_, _<_}
 use mathlib.Core.Bool.{Bool, true, false}
-use mathlib.Core.Path.{_≡_}
+use mathlib.Core.Path.{_≡_, refl}
 use mathlib.Core.List.{List}
 use native.Mathlib.Omega.{arith}
 use lib.ListN.{length, getD}
@@ -31,6 +31,14 @@ use Rattle.shape.specs.Inside.{header-inside, place-inside}
 pub record Decides (P Q : Type 0) (r : Bool) : Type 0 where
   pub yes : r ≡ true → P
   pub no : r ≡ false → Q → ⊥
+
+-- Whether words have the shape is told in one way, whatever stands in the places.
+pub shape-unique : {ws places others : List ℕ} (a b : Bool) → Decides (Ready ws places) (Shaped ws) a
+    → Decides (Ready ws others) (Shaped ws) b → a ≡ b
+shape-unique true true d e = refl
+shape-unique true false d e = absurd (e .no refl (d .yes refl .shaped))
+shape-unique false true d e = absurd (d .no refl (e .yes refl .shaped))
+shape-unique false false d e = refl
 
 pub record Between (low high x : ℕ) : Type 0 where
   pub from : low ≤ x

@@ -26,7 +26,7 @@ fn list_one() -> bool {
     let got = fill(&mut input, size);
     skip(behind(size));
     let mut out = [0u8; 155817];
-    let count = listing::show(&input[..got], &mut out);
+    let count = listing::show(&input, got, &mut out);
     io::write_all(1, &out[..count]);
     true
 }

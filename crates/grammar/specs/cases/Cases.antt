@@ -64,6 +64,15 @@ delete p t = record { kind = 1; place = p; symbol = t }
 abbrev insert : ℕ → ℕ → Edit
 insert p X = record { kind = 2; place = p; symbol = X }
 
+-- Case 12: T 2, 64 -> empty, log 1: 3 moves, the bound itself: 2 + 1 + 0 x 1 x 1.
+abbrev pub case12 : Case
+case12 = record {
+  words = small 1 1 (0 ∷ 0 ∷ []);
+  log = 1 ∷ [];
+  ticks = 0 ∷ [];
+  expected = result (record { moves = 3; edits = none; rules = none; pace = none });
+}
+
 abbrev pub cases : List Case
 cases =
     -- case 1: G, empty log: 2 moves, no edits, idle
@@ -140,13 +149,7 @@ cases =
     ∷ record { words = small 1 1 (0 ∷ 1 ∷ 64 ∷ []); log = []; ticks = []; expected = refuses 7 }
     -- case 11: N 2: 64 -> empty; 65 -> 1: refused 6
     ∷ record { words = small 2 2 (0 ∷ 0 ∷ 1 ∷ 1 ∷ 1 ∷ []); log = []; ticks = []; expected = refuses 6 }
-    -- case 12: T 2, 64 -> empty, log 1: 3 moves, the bound itself: 2 + 1 + 0 x 1 x 1
-    ∷ record {
-      words = small 1 1 (0 ∷ 0 ∷ []);
-      log = 1 ∷ [];
-      ticks = 0 ∷ [];
-      expected = result (record { moves = 3; edits = none; rules = none; pace = none });
-    }
+    ∷ case12
     ∷ []
 
 -- ---- What it means that the definitions give a case

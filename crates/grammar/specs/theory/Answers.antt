@@ -64,7 +64,7 @@ given-one : {A : Type 0} {o q : Option Refusal} {r w : Refusal} → o ≡ q → 
 given-one e f g = let h = sym f ∙ e ∙ g in cc
 
 -- What a run comes to is one, where runs are.
-settled-unique : {cs : List Condition} {Runs : List Move → Option Refusal → Type 0} {o q : Outcome (List Move)}
+pub settled-unique : {cs : List Condition} {Runs : List Move → Option Refusal → Type 0} {o q : Outcome (List Move)}
     → (Lowest cs none → (ms ns : List Move) (x y : Option Refusal) → Runs ms x → Runs ns y → SameRun ms ns x y)
     → Settled cs Runs o → Settled cs Runs q → o ≡ q
 settled-unique f (Settled.whole {ms = ms} l r) (Settled.whole {ms = ns} k s) =

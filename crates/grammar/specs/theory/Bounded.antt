@@ -1,6 +1,7 @@
 -- Demand 3: a run makes at most 2 + n + R x N x n moves, of any grammar whose right sides have at most R symbols; also a run
 -- that is refused midway, and every path of decisions. Each match, drop and insert pops one symbol, each delete passes one
--- token, and an expand pushes at most R; a token of the log takes at most N expands, and END none.
+-- token, and an expand pushes at most R; a token of the log takes at most N expands, and END none. The argument is over a measure
+-- (`Measure`), so that it bounds the rule numbers too (Listed.antt).
 use Prim.Native.Nat.{ℕ, zero, suc, _+_, _*_, _≤_, _<_}
 use mathlib.Core.Path.{_≡_, refl, sym, ap, _∙_, subst}
 use mathlib.Core.List.{List, [], _∷_, _++_}
@@ -25,16 +26,16 @@ use Rattle.grammar.specs.theory.States.{LogToken, state, Live, choice-so
 use Rattle.grammar.specs.theory.Paths.{Path, run-path}
 
 -- How many tokens stand before END.
-unfoldable tokensLeft : List ℕ → ℕ
+unfoldable pub tokensLeft : List ℕ → ℕ
 tokensLeft [] = 0
 tokensLeft (t ∷ ρ) = length ρ
 
 -- The expands that are left where the current token may take k more, of d tokens before END.
-unfoldable expandsLeft : ℕ → ℕ → ℕ → ℕ
+unfoldable pub expandsLeft : ℕ → ℕ → ℕ → ℕ
 expandsLeft N k zero = 0
 expandsLeft N k (suc d) = k + N * d
 
-expands-fresh : (N d : ℕ) → expandsLeft N N d ≡ N * d
+pub expands-fresh : (N d : ℕ) → expandsLeft N N d ≡ N * d
 unfolding expandsLeft
 expands-fresh N zero = omega arith
 expands-fresh N (suc d) = omega arith
@@ -44,7 +45,7 @@ unfoldable movesLeft : ℕ → ℕ → ℕ → List ℕ → List ℕ → ℕ
 movesLeft N R k σ ρ = length σ + tokensLeft ρ + R * expandsLeft N k (tokensLeft ρ)
 
 -- The current token may take k more expands: nothing has moved for it, or it is in FIRST of the stack and k are left.
-data Credit (G : Grammar) (N : ℕ) (σ ρ : List ℕ) (k : ℕ) : Type 0 where
+pub data Credit (G : Grammar) (N : ℕ) (σ ρ : List ℕ) (k : ℕ) : Type 0 where
   fresh : k ≡ N → Credit G N σ ρ k
   begun : First (G .rules) σ (getD ρ 0 END) → Budget (G .rules) (getD ρ 0 END) σ k → Credit G N σ ρ k
 
@@ -71,7 +72,7 @@ correction-length p j i σ ρ l h =
       length-take-le i σ (omega arith),
     )
 
-tokens-drop : (j : ℕ) (ρ : List ℕ) → j < length ρ → tokensLeft (drop j ρ) + j ≡ tokensLeft ρ
+pub tokens-drop : (j : ℕ) (ρ : List ℕ) → j < length ρ → tokensLeft (drop j ρ) + j ≡ tokensLeft ρ
 unfolding tokensLeft
 tokens-drop zero ρ l = omega arith
 tokens-drop (suc j) [] l = absurd (omega arith)
@@ -98,7 +99,21 @@ module _ (G : Grammar) (N R : ℕ) (good : Good G N R) where
   credit-fresh n (Credit.fresh e) = e
   credit-fresh n (Credit.begun f b) = absurd (n f)
 
-  -- ---- The four kinds of decision; m moves come behind.
+  -- What is counted of the moves, and a bound on what is left of it, of which the current token may take k expands: each of the four
+  -- kinds of decision counts no more than it takes off. ms come behind.
+  pub record Measure : Type 0 where
+    pub count : List Move → ℕ
+    pub left : ℕ → List ℕ → List ℕ → ℕ
+    pub nothing : (k : ℕ) (σ ρ : List ℕ) → count [] ≤ left k σ ρ
+    pub on-match : (p X t k : ℕ) (σ ρ : List ℕ) (ms : List Move) → count ms ≤ left N σ ρ
+        → count (Move.match p t ∷ ms) ≤ left k (X ∷ σ) (t ∷ ρ)
+    pub on-expand : (p A t k : ℕ) (β σ ρ : List ℕ) (ms : List Move) → length β ≤ R → (ρ ≡ [] → ⊥) → count ms ≤ left k (β ++ σ) (t ∷ ρ)
+        → count (Move.expand p ∷ ms) ≤ left (suc k) (A ∷ σ) (t ∷ ρ)
+    pub on-drop : (X k : ℕ) (σ ρ : List ℕ) (ms : List Move) → count ms ≤ left k σ ρ → count (Move.drop X ∷ ms) ≤ left k (X ∷ σ) ρ
+    pub on-correct : (p j i : ℕ) (σ ρ : List ℕ) (ms : List Move) → i < length σ → j < length ρ → count ms ≤ left N (drop i σ) (drop j ρ)
+        → count ((deletes p (take j ρ) ++ inserts (p + j) (take i σ)) ++ ms) ≤ left N σ ρ
+
+  -- ---- The moves
 
   bounded-match : (X t k m : ℕ) (σ ρ : List ℕ) → m ≤ movesLeft N R N σ ρ → suc m ≤ movesLeft N R k (X ∷ σ) (t ∷ ρ)
   unfolding movesLeft tokensLeft expandsLeft
@@ -126,18 +141,35 @@ module _ (G : Grammar) (N R : ℕ) (good : Good G N R) where
       let after : R * expandsLeft N N d ≡ R * (N * d) = ap (λ n. R * n) (expands-fresh N d) in
       omega (arith, length-drop i σ)
 
+  moveMeasure : Measure
+  moveMeasure = record {
+    count = length;
+    left = movesLeft N R;
+    nothing = λ k σ ρ. omega arith;
+    on-match = λ p X t k σ ρ ms h. bounded-match X t k (length ms) σ ρ h;
+    on-expand = λ p A t k β σ ρ ms l n h. bounded-expand A t k (length ms) β σ ρ l n h;
+    on-drop = λ X k σ ρ ms h. bounded-drop X k (length ms) σ ρ h;
+    on-correct = λ p j i σ ρ ms l h b.
+        omega (
+          arith,
+          bounded-correct j i (length ms) σ ρ l h b,
+          correction-length p j i σ ρ l h,
+          length-append (deletes p (take j ρ) ++ inserts (p + j) (take i σ)) ms,
+        );
+  }
+
   -- A token that an expand is for is not END.
   not-end : {p A t : ℕ} {β ρ : List ℕ} → G .rules p A β → First (G .rules) β t → Ended LogToken (t ∷ ρ) → ρ ≡ [] → ⊥
   not-end {β = β} r f (Ended.last e) h = end-not-inside r (subst (λ x. First (G .rules) β x) e f)
   not-end r f (Ended.also k a) h = ended-nonempty a h
 
-  expand-step : {p A t : ℕ} {β σ ρ : List ℕ} (m k : ℕ) → G .rules p A β → First (G .rules) β t → Ended LogToken (t ∷ ρ)
-      → At G (A ∷ σ) → Budget (G .rules) t (A ∷ σ) k
-      → ((n : ℕ) → Credit G N (β ++ σ) (t ∷ ρ) n → m ≤ movesLeft N R n (β ++ σ) (t ∷ ρ))
-      → suc m ≤ movesLeft N R k (A ∷ σ) (t ∷ ρ)
-  expand-step {σ = σ} m zero r g q a b f = absurd (omega (arith, budget-some G N R good σ r g b))
-  expand-step {p = p} {A = A} {t = t} {β = β} {σ = σ} {ρ = ρ} m (suc k) r g q a b f =
-      bounded-expand A t k m β σ ρ (good .size p A β r) (not-end r g q)
+  expand-step : (M : Measure) {p A t : ℕ} {β σ ρ : List ℕ} (ms : List Move) (k : ℕ) → G .rules p A β → First (G .rules) β t
+      → Ended LogToken (t ∷ ρ) → At G (A ∷ σ) → Budget (G .rules) t (A ∷ σ) k
+      → ((n : ℕ) → Credit G N (β ++ σ) (t ∷ ρ) n → M .count ms ≤ M .left n (β ++ σ) (t ∷ ρ))
+      → M .count (Move.expand p ∷ ms) ≤ M .left k (A ∷ σ) (t ∷ ρ)
+  expand-step M {σ = σ} ms zero r g q a b f = absurd (omega (arith, budget-some G N R good σ r g b))
+  expand-step M {p = p} {A = A} {t = t} {β = β} {σ = σ} {ρ = ρ} ms (suc k) r g q a b f =
+      M .on-expand p A t k β σ ρ ms (good .size p A β r) (not-end r g q)
       (f k (Credit.begun (first-append (G .rules) g σ) (budget-expand G N R good (at-down G N R good a r) r g b)))
 
   credit-drop : {X t k : ℕ} {σ ρ : List ℕ} → First (G .rules) (X ∷ σ) t → (First (G .rules) (X ∷ []) t → ⊥)
@@ -147,38 +179,36 @@ module _ (G : Grammar) (N R : ℕ) (good : Good G N R) where
       let h = dropped-empty G g n in Credit.begun (h .1) (budget-drop G N R good (h .0) b)
 
   -- One decision, and the moves behind it.
-  bounded-step : {σ ρ : List ℕ} {x : Pick} (ms : List Move) (p c l k : ℕ) → Choice G σ ρ x → Ended LogToken ρ → At G σ
+  bounded-step : (M : Measure) {σ ρ : List ℕ} {x : Pick} (ms : List Move) (p c l k : ℕ) → Choice G σ ρ x → Ended LogToken ρ → At G σ
       → Credit G N σ ρ k
       → ((n : ℕ) → Credit G N (next (state σ p ρ c l) x .stack) (next (state σ p ρ c l) x .rest) n
-      → length ms ≤ movesLeft N R n (next (state σ p ρ c l) x .stack) (next (state σ p ρ c l) x .rest))
-      → length (made (state σ p ρ c l) x ++ ms) ≤ movesLeft N R k σ ρ
+      → M .count ms ≤ M .left n (next (state σ p ρ c l) x .stack) (next (state σ p ρ c l) x .rest))
+      → M .count (made (state σ p ρ c l) x ++ ms) ≤ M .left k σ ρ
   unfolding next made
-  bounded-step ms p c l k (Choice.match {X = X} {t = t} {σ = σ} {rest = ρ} e) q a b f =
-      bounded-match X t k (length ms) σ ρ (f N (Credit.fresh refl))
-  bounded-step ms p c l k (Choice.expand r g) q a b f = expand-step (length ms) k r g q a (credit-budget (g .token) b) f
-  bounded-step ms p c l k (Choice.pass {X = X} {t = t} {σ = σ} {rest = ρ} g n) q a b f =
-      bounded-drop X k (length ms) σ (t ∷ ρ) (f k (credit-drop g n b))
-  bounded-step ms p c l k (Choice.correct {t = t} {j = j} {i = i} {σ = σ} {rest = ρ} n x) q a b f =
-      let count = correction-length p j i σ (t ∷ ρ) (x .plausible .within) (x .within) in
-      let after = bounded-correct j i (length ms) σ (t ∷ ρ) (x .plausible .within) (x .within) (f N (Credit.fresh refl)) in
-      subst (λ m. length ((deletes p (take j (t ∷ ρ)) ++ inserts (p + j) (take i σ)) ++ ms) ≤ movesLeft N R m σ (t ∷ ρ))
+  bounded-step M ms p c l k (Choice.match {X = X} {t = t} {σ = σ} {rest = ρ} e) q a b f =
+      M .on-match p X t k σ ρ ms (f N (Credit.fresh refl))
+  bounded-step M ms p c l k (Choice.expand r g) q a b f = expand-step M ms k r g q a (credit-budget (g .token) b) f
+  bounded-step M ms p c l k (Choice.pass {X = X} {t = t} {σ = σ} {rest = ρ} g n) q a b f =
+      M .on-drop X k σ (t ∷ ρ) ms (f k (credit-drop g n b))
+  bounded-step M ms p c l k (Choice.correct {t = t} {j = j} {i = i} {σ = σ} {rest = ρ} n x) q a b f =
+      subst (λ m. M .count ((deletes p (take j (t ∷ ρ)) ++ inserts (p + j) (take i σ)) ++ ms) ≤ M .left m σ (t ∷ ρ))
       (sym (credit-fresh n b))
-      (omega (arith, length-append (deletes p (take j (t ∷ ρ)) ++ inserts (p + j) (take i σ)) ms))
+      (M .on-correct p j i σ (t ∷ ρ) ms (x .plausible .within) (x .within) (f N (Credit.fresh refl)))
 
-  live-step : {σ ρ : List ℕ} {x : Pick} (ms : List Move) (p c l k : ℕ) → Choice G σ ρ x → Live G σ ρ → Credit G N σ ρ k
+  live-step : (M : Measure) {σ ρ : List ℕ} {x : Pick} (ms : List Move) (p c l k : ℕ) → Choice G σ ρ x → Live G σ ρ → Credit G N σ ρ k
       → ((n : ℕ) → Credit G N (next (state σ p ρ c l) x .stack) (next (state σ p ρ c l) x .rest) n
-      → length ms ≤ movesLeft N R n (next (state σ p ρ c l) x .stack) (next (state σ p ρ c l) x .rest))
-      → length (made (state σ p ρ c l) x ++ ms) ≤ movesLeft N R k σ ρ
-  live-step ms p c l k d (Live.running s q a) b f = bounded-step ms p c l k d q a b f
-  live-step ms p c l k d (Live.over e g) b f = absurd (choice-some d g)
+      → M .count ms ≤ M .left n (next (state σ p ρ c l) x .stack) (next (state σ p ρ c l) x .rest))
+      → M .count (made (state σ p ρ c l) x ++ ms) ≤ M .left k σ ρ
+  live-step M ms p c l k d (Live.running s q a) b f = bounded-step M ms p c l k d q a b f
+  live-step M ms p c l k d (Live.over e g) b f = absurd (choice-some d g)
 
-  path-bounded : {L : Limits} {s u : State} {ms : List Move} → Path G L s ms u → (k : ℕ) → Live G (s .stack) (s .rest)
-      → Credit G N (s .stack) (s .rest) k → length ms ≤ movesLeft N R k (s .stack) (s .rest)
-  path-bounded Path.still k v b = omega arith
-  path-bounded (Path.onward {s = s} {ms = ms} c l q) k v b =
-      live-step ms (s .place) (s .records) (s .listed) k c v b (λ n d. path-bounded q n (live-next G N R good s c v) d)
+  pub path-bounded : (M : Measure) {L : Limits} {s u : State} {ms : List Move} → Path G L s ms u → (k : ℕ) → Live G (s .stack) (s .rest)
+      → Credit G N (s .stack) (s .rest) k → M .count ms ≤ M .left k (s .stack) (s .rest)
+  path-bounded M Path.still k v b = M .nothing k _ _
+  path-bounded M (Path.onward {s = s} {ms = ms} c l q) k v b =
+      live-step M ms (s .place) (s .records) (s .listed) k c v b (λ n d. path-bounded M q n (live-next G N R good s c v) d)
 
-  tokens-log : (log : List ℕ) → tokensLeft (log ++ (END ∷ [])) ≡ length log
+  pub tokens-log : (log : List ℕ) → tokensLeft (log ++ (END ∷ [])) ≡ length log
   unfolding tokensLeft
   tokens-log [] = refl
   tokens-log (t ∷ log) = omega (arith, length-append log (END ∷ []))
@@ -193,8 +223,9 @@ module _ (G : Grammar) (N R : ℕ) (good : Good G N R) where
   -- Every path of decisions from the start has at most so many moves,
   pub path-moves-bounded : {L : Limits} {log : List ℕ} {ms : List Move} {u : State} → All LogToken log
       → Path G L (started (G .begin) log) ms u → length ms ≤ length (G .begin) + length log + R * N * length log
+  unfolding moveMeasure
   path-moves-bounded {log = log} a q =
-      let h = path-bounded q N (live-start G N R good a) (Credit.fresh refl) in
+      let h = path-bounded moveMeasure q N (live-start G N R good a) (Credit.fresh refl) in
       omega (arith, start-left log)
 
   -- and so has every run, whatever its outcome.

@@ -41,7 +41,7 @@ module _ (R : Rules) (price : ℕ → ℕ) where
 -- ---- The hit, of any grammar
 
 module _ (G : Grammar) {σ rest : List ℕ} where
-  -- "Each correction deletes the fewest": no plausible correction stands at an earlier token,
+  -- Each correction deletes the fewest: no plausible correction stands at an earlier token,
   pub fewest-deletes : {j i h k : ℕ} → Hit G σ rest j i → Plausible G σ (getD rest h END) k → j ≤ h
   fewest-deletes {j = j} {h = h} {k = k} x p = dite (decLt h j) (λ l. absurd (x .least-r h k l p)) (λ l. omega arith)
 
@@ -49,7 +49,7 @@ module _ (G : Grammar) {σ rest : List ℕ} where
   pub fewest-inserts : {j i k : ℕ} → Hit G σ rest j i → Plausible G σ (getD rest j END) k → i ≤ k
   fewest-inserts {i = i} {k = k} x p = dite (decLt k i) (λ l. absurd (x .least-i k l p)) (λ l. omega arith)
 
-  -- "The hit is unique."
+  -- The hit is one.
   pub hit-unique : {j i k h : ℕ} → Hit G σ rest j i → Hit G σ rest k h → (j ≡ k) × (i ≡ h)
   hit-unique {j = j} {i = i} {k = k} {h = h} x y =
       let e : j ≡ k = omega (arith, fewest-deletes x (y .plausible), fewest-deletes y (x .plausible)) in (

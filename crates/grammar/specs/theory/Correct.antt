@@ -1,5 +1,5 @@
 -- Demand 2: there are no edits exactly when the log was correct. A log that the stack derives is never in error, and each
--- choice keeps "the stack derives the rest of the log"; without edits the repaired log is the log.
+-- choice keeps that the stack derives the rest of the log; without edits the repaired log is the log.
 use Prim.Native.Nat.{ℕ, _+_}
 use mathlib.Core.Path.{_≡_, refl, sym, ap, _∙_, subst}
 use mathlib.Core.List.{List, [], _∷_, _++_, cons≢nil, nil≢cons, head-eq-of-cons-eq, tail-eq-of-cons-eq}

@@ -1,40 +1,40 @@
--- The theorems to read first: what document 01 demands of the definitions, in its words, for every accepted grammar and every
--- log that fits. Each is proved here by citing; the names on the right say where to look.
+-- The theorems to read first: demands 1 to 3 of the definitions, in document 01's words, for every input. Each is proved here by citing;
+-- the names on the right say where to look. That there always is an answer is what the functions add: each has a contract by these
+-- definitions, and none that a user can call asks for anything (docs/EXCEPTIONS.md).
 --
 -- `ws` are the grammar words, `Verdict ws none` says that they pass the grammar check, `LogFits ws log` that refusal 10 does
 -- not apply, and `RunOf ws log editRoom ruleRoom ms none` that the run of the log made the moves ms and ended.
 use Prim.Native.Nat.{ℕ, _+_, _*_, _≤_, _<_}
-use mathlib.Core.Path.{_≡_, refl, sym, ap, subst}
-use mathlib.Core.Logic.{_↔_}
-use mathlib.Core.List.{List, [], _∷_, _++_, append-nil, cons≢nil}
-use mathlib.Core.Option.{Option, none}
-use lib.ListN.{length, getD, take}
-use Rattle.grammar.specs.Words.{START, END, nonterminalCount, ruleCount, rightSize, reliability}
-use Rattle.grammar.specs.Derivation.{Rules, Step, Derives, All, First, Follow, CanBeEmpty, Yields}
-use Rattle.grammar.specs.Cost.{ListCost}
-use Rattle.grammar.specs.Grammar.{RuleOf, Reliable, Verdict, grammarOf, startOverEnd}
-use Rattle.grammar.specs.Buffers.{filled}
-use Rattle.grammar.specs.Moves.{Move, Edit, edits, editWords, repaired, passed, placed}
-use Rattle.grammar.specs.Run.{Plausible, Hit, Choice, expanding, dropping, correcting}
-use Rattle.grammar.specs.Run.{State, Limits, started, LogFits, RunOf, Parsed}
-use Rattle.grammar.specs.Refusals.{Outcome, given}
-use Rattle.grammar.specs.File.{FileRead}
-use Rattle.grammar.specs.Pace.{Reported}
+use mathlib.Core.Path.{_≡_, sym, ap, subst, _∙_}
+use mathlib.Core.Logic.{_↔_, Iff·trans}
+use mathlib.Core.List.{List, [], _∷_, _++_}
+use mathlib.Core.Option.{Option, none, some}
+use lib.ListN.{length, getD}
+use Rattle.grammar.specs.Words.{START, END, Shaped, nonterminalCount, ruleCount, rightSize, opening, closing}
+use Rattle.grammar.specs.Derivation.{Derives, All, Yields}
+use Rattle.grammar.specs.Derivation.{Reachable, Productive, NoneShared}
+use Rattle.grammar.specs.Grammar.{RuleOf, Affordable, EachNonterminal, Verdict, grammarOf, startOverEnd, grammarConditions}
+use Rattle.grammar.specs.Buffers.{filled, cleared}
+use Rattle.grammar.specs.Moves.{Move, Edit, edits, editWords, ruleNumbers, repaired, passed, placed}
+use Rattle.grammar.specs.Run.{Plausible, Hit, Choice, correcting}
+use Rattle.grammar.specs.Run.{LogFits, runConditions, RunOf, countsOf, Parses, Parsed}
+use Rattle.grammar.specs.Refusals.{Outcome, given, refused}
+use Rattle.grammar.specs.File.{fileConditions, fileWords, FileRead}
+use Rattle.grammar.specs.Pace.{Span, Clean, Reported}
 use Rattle.grammar.specs.declared.Refusal.{Refusal}
 use Rattle.grammar.specs.declared.Report.{Report}
 use Rattle.grammar.specs.declared.Counts.{Counts}
+use Rattle.grammar.specs.declared.Pace.the-variants.{Idle}
 use Rattle.grammar.specs.theory.Good.{Good, accepted, good-within, opens-with-start, eight-bounds}
 use Rattle.grammar.specs.theory.States.{LogToken}
-use Rattle.grammar.specs.theory.Paths.{Path}
 use Rattle.grammar.specs.theory.Exists as Exists
-use Rattle.grammar.specs.theory.Exists.{Ending}
-use Rattle.grammar.specs.theory.Decided.{decFirstOf, decReliableOf}
-use Rattle.grammar.specs.theory.Predictive as Predictive
 use Rattle.grammar.specs.theory.Chosen as Chosen
-use Rattle.grammar.specs.theory.Token as Token
-use Rattle.grammar.specs.theory.Determined as Determined
 use Rattle.grammar.specs.theory.Answers as Answers
-use Rattle.grammar.specs.theory.Conditions.{lowest-unique}
+use Rattle.grammar.specs.theory.Conditions.{Held}
+use Rattle.grammar.specs.theory.Due.{Due, InOrder, lowest-held}
+use Rattle.grammar.specs.theory.Refused as Refused
+use Rattle.grammar.specs.theory.Refused.{Given}
+use Rattle.grammar.specs.theory.Told.{told, idle-no-cycle, no-cycle-idle, idle-no-time}
 use Rattle.grammar.specs.theory.Repaired as Repaired
 use Rattle.grammar.specs.theory.Filled as Filling
 use Rattle.grammar.specs.theory.Filled.{Filled}
@@ -42,32 +42,115 @@ use Rattle.grammar.specs.theory.Correct as Correct
 use Rattle.grammar.specs.theory.Bounded as Bounded
 use Rattle.grammar.specs.theory.Rebuilt.{rebuilt, rebuilt-repaired}
 use Rattle.grammar.specs.theory.Kept.{parsed-made}
+use Rattle.grammar.specs.cases.Cases.{case12, editRoom, ruleRoom}
+use Rattle.grammar.specs.cases.Bound as Bound
 
--- ---- The grammar
+-- ======== Demand 1: every input gets its answer, each refusal exactly when the table says
 
-no-step : {R : Rules} {α β : List ℕ} → Step R α β → α ≡ [] → ⊥
-no-step (Step.here r) e = cons≢nil e
-no-step (Step.later s) e = cons≢nil e
+-- A refusal is due (`Due`) where its condition fails and every condition of a lower number holds. The lists of conditions stand
+-- in the order of their numbers, so that it is the first one to fail.
+pub in-order : (bytes ws log : List ℕ) (room : ℕ) (Asked : Type 0)
+    → InOrder (fileConditions bytes room) × InOrder (grammarConditions ws) × InOrder (runConditions ws log Asked)
+in-order bytes ws log room Asked =
+    (Refused.file-in-order bytes room, Refused.grammar-in-order ws, Refused.run-in-order ws log Asked)
 
--- "Left recursion has no refusal of its own: a grammar that passes has none, and this is to be shown": no nonterminal derives,
--- in one or more steps, a form that begins with itself.
-pub no-left-recursion : (ws : List ℕ) → Verdict ws none → (A : ℕ) (α γ : List ℕ) → Step (RuleOf ws) (A ∷ []) α
-    → Derives (RuleOf ws) α (A ∷ γ) → ⊥
-no-left-recursion ws v A α γ (Step.here {β = β} r) d =
-    let a = accepted v in
-    Predictive.no-left-recursion (grammarOf ws) (nonterminalCount ws) 8 (good-within ws a 8 (eight-bounds ws a)) r
-    (subst (λ l. Derives (RuleOf ws) l (A ∷ γ)) (append-nil β) d)
-no-left-recursion ws v A α γ (Step.later s) d = no-step s refl
+-- What an answer keeps: each refusal is given exactly where `Refuses` says, and leaves `Zeros`; values come with what `Holds` says.
+pub record Answered {A : Type 0} (answer : Outcome A) (Refuses : Refusal → Type 0) (Zeros : Type 0) (Holds : A → Type 0) : Type 0 where
+  pub exactly : (r : Refusal) → (answer ≡ refused r) ↔ Refuses r
+  pub zeros : (r : Refusal) → answer ≡ refused r → Zeros
+  pub holds : (a : A) → answer ≡ given a → Holds a
 
--- A nonterminal that can be empty has no token in both its FIRST and its FOLLOW.
-pub first-or-follow : (ws : List ℕ) → Verdict ws none → (A t : ℕ) → CanBeEmpty (RuleOf ws) (A ∷ []) → First (RuleOf ws) (A ∷ []) t
-    → Follow (RuleOf ws) startOverEnd A t → ⊥
-first-or-follow ws v A t c f w =
-    let a = accepted v in
-    Predictive.first-or-follow (grammarOf ws) (nonterminalCount ws) 8 (good-within ws a 8 (eight-bounds ws a)) c f w
+-- The reader: the file's words, zeros behind them, or a refusal that is due, and zeros.
+pub reader-answers : {bytes : List ℕ} {room : ℕ} {a : Outcome ℕ} {x : List ℕ} → FileRead bytes room a x
+    → Answered a (Due (fileConditions bytes room)) (x ≡ cleared room)
+    (λ n. (n ≡ length (fileWords bytes)) × (x ≡ filled room (fileWords bytes)))
+reader-answers p =
+    record {
+      exactly = Refused.reader-exactly p;
+      zeros = λ r e. Refused.reader-zeros p e;
+      holds = λ n e. Refused.reader-words p e;
+    }
 
--- ---- The run
+-- The check: a refusal that is due. It has no buffer.
+pub check-answers : {ws : List ℕ} {o : Option Refusal} → Verdict ws o → (r : Refusal) → (o ≡ some r) ↔ Due (grammarConditions ws) r
+check-answers {ws} v = Refused.lowest-exactly (Refused.grammar-in-order ws) v
 
+-- The buffers of a parse: zeros; or the words of the moves, zeros behind them.
+abbrev pub Blank : ℕ → ℕ → List ℕ → List ℕ → Type 0
+Blank editRoom ruleRoom x y = (x ≡ cleared editRoom) × (y ≡ cleared ruleRoom)
+
+pub record Lists (editRoom ruleRoom : ℕ) (x y : List ℕ) (counts : Counts) : Type 0 where
+  pub moves : List Move
+  pub counted : counts ≡ countsOf moves
+  pub edit-words : x ≡ filled editRoom (editWords (edits moves))
+  pub rule-words : y ≡ filled ruleRoom (ruleNumbers moves)
+
+lists : {Asked : Type 0} {ws log : List ℕ} {editRoom ruleRoom : ℕ} {o : Outcome (List Move)} {x y : List ℕ} {counts : Counts}
+    → Parses Asked ws log editRoom ruleRoom o x y → ((ms : List Move) × (o ≡ given ms) × (counts ≡ countsOf ms))
+    → Lists editRoom ruleRoom x y counts
+lists p m =
+    let words = Refused.parses-words p (m .1) in
+    record { moves = m .0; counted = m .2; edit-words = words .0; rule-words = words .1 }
+
+-- The parser: a refusal that is due before the run, or, where none is, the one that a move of the run meets (`Given`).
+pub parser-answers : {ws log : List ℕ} {editRoom ruleRoom : ℕ} {a : Outcome Counts} {x y : List ℕ} → Parsed ws log editRoom ruleRoom a x y
+    → Answered a (Given (Unit {0}) ws log editRoom ruleRoom) (Blank editRoom ruleRoom x y) (Lists editRoom ruleRoom x y)
+parser-answers p =
+    record {
+      exactly = λ r. Iff·trans (Refused.answered-refused r (p .answers)) (Refused.parses-exactly (p .parses) r);
+      zeros = λ r e. Refused.parses-zeros (p .parses) (Refused.answered-refused r (p .answers) .0 e);
+      holds = λ a e. lists (p .parses) (Refused.answered-given (p .outcome) (sym e ∙ p .answers));
+    }
+
+-- The report: the same, with as many ticks as tokens asked under 10.
+pub report-answers : {ws log ticks : List ℕ} {editRoom ruleRoom : ℕ} {a : Outcome (Report × Counts)} {x y : List ℕ}
+    → Reported ws log ticks editRoom ruleRoom a x y
+    → Answered a (Given (length ticks ≡ length log) ws log editRoom ruleRoom) (Blank editRoom ruleRoom x y)
+    (λ given. Lists editRoom ruleRoom x y (given .1))
+report-answers p =
+    record {
+      exactly = λ r. Iff·trans (Refused.reports-refused r (p .reports)) (Refused.parses-exactly (p .parses) r);
+      zeros = λ r e. Refused.parses-zeros (p .parses) (Refused.reports-refused r (p .reports) .0 e);
+      holds = λ a e. lists (p .parses) (Refused.reports-given (p .reports) e);
+    }
+
+-- A station is idle exactly when its run, which made the moves ms, has no clean cycle; and idle carries no time.
+pub idle-exactly : {ws log ticks : List ℕ} {editRoom ruleRoom : ℕ} {report : Report} {counts : Counts} {x y : List ℕ} {ms : List Move}
+    → Reported ws log ticks editRoom ruleRoom (given (report, counts)) x y → RunOf ws log editRoom ruleRoom ms none
+    → ((report .pace ≡ Idle) ↔ ((s : Span) → Clean (opening ws) (closing ws) ms s → ⊥))
+    × (report .pace ≡ Idle → (report .count ≡ 0) × (report .sum ≡ 0))
+idle-exactly p run = ((idle-no-cycle (told p) run, no-cycle-idle (told p) run), idle-no-time (told p))
+
+-- ======== Demand 2: the grammar, the corrections, the repaired log
+
+-- A grammar is accepted exactly when the five conditions hold.
+pub accepted-exactly : (ws : List ℕ) → Verdict ws none
+    ↔ (Shaped ws
+    × EachNonterminal ws (Reachable (RuleOf ws) (START ∷ []))
+    × EachNonterminal ws (Productive (RuleOf ws))
+    × EachNonterminal ws (Affordable ws)
+    × NoneShared (RuleOf ws) startOverEnd)
+unfolding Held
+accepted-exactly ws =
+    let both = lowest-held (grammarConditions ws) in (
+      λ v. let h = both .0 v in (h .0, h .1 .0, h .1 .1 .0, h .1 .1 .1 .0, h .1 .1 .1 .1 .0),
+      λ h. both .1 (h .0, (h .1, (h .2, (h .3, (h .4, tt))))),
+    )
+
+-- A correction, which deletes j tokens and inserts i symbols at stack σ and rest ρ of the log.
+module _ (ws : List ℕ) {σ ρ : List ℕ} {j i : ℕ} (chosen : Choice (grammarOf ws) σ ρ (correcting j i)) where
+  hit : Hit (grammarOf ws) σ ρ j i
+  hit = Chosen.correction-hit (grammarOf ws) chosen
+
+  -- It deletes the fewest tokens that a plausible correction can,
+  pub fewest-deletes : (h k : ℕ) → Plausible (grammarOf ws) σ (getD ρ h END) k → j ≤ h
+  fewest-deletes h k p = Chosen.fewest-deletes (grammarOf ws) hit p
+
+  -- and then inserts the fewest.
+  pub fewest-inserts : (k : ℕ) → Plausible (grammarOf ws) σ (getD ρ j END) k → i ≤ k
+  fewest-inserts k p = Chosen.fewest-inserts (grammarOf ws) hit p
+
+-- The run of a log: Sentences.antt says that there is one, and only one.
 module _ (ws log : List ℕ) (passes : Verdict ws none) (fits : LogFits ws log) where
   tokens : All LogToken log
   tokens = Answers.log-tokens (record { words = accepted passes; fits = fits })
@@ -79,34 +162,8 @@ module _ (ws log : List ℕ) (passes : Verdict ws none) (fits : LogFits ws log) 
   unfolding good
   opened = opens-with-start ws (accepted passes) 8 (eight-bounds ws (accepted passes))
 
-  -- Demand 3: moves are at most 2 + n + R x N x n, of every run, also of one that is refused midway, where R bounds the right
-  -- sides: 8 does, and so does the longest. Case 12 is "the bound itself", with R 0: 2 + 1 + 0 moves.
-  pub moves-bounded : {editRoom ruleRoom : ℕ} {ms : List Move} {o : Option Refusal} (R : ℕ)
-      → ((p : ℕ) → p < ruleCount ws → rightSize ws p ≤ R) → RunOf ws log editRoom ruleRoom ms o
-      → length ms ≤ 2 + length log + R * nonterminalCount ws * length log
-  moves-bounded R bound run =
-      Bounded.moves-bounded (grammarOf ws) (nonterminalCount ws) R (good-within ws (accepted passes) R bound) tokens run
-
-  -- The run is determined: two runs of one log have equal moves and equal outcome.
-  pub run-determined : {editRoom ruleRoom : ℕ} {ms ns : List Move} {o q : Option Refusal} → RunOf ws log editRoom ruleRoom ms o
-      → RunOf ws log editRoom ruleRoom ns q → (ms ≡ ns) × (o ≡ q)
-  run-determined run other =
-      let same = Answers.runs-determined (record { words = accepted passes; fits = fits }) run other in
-      (same .moves, same .outcome)
-
-  -- A run exists: it ends, or is refused by 11 or 12.
-  pub run-exists : (editRoom ruleRoom : ℕ) → (ms : List Move) × (o : Option Refusal) × RunOf ws log editRoom ruleRoom ms o × Ending o
-  run-exists editRoom ruleRoom =
-      Exists.run-exists (grammarOf ws) (nonterminalCount ws) 8 good (decFirstOf ws (accepted passes)) (decReliableOf ws) _ tokens
-
-  -- "An r always exists": in every state u that a run comes to before its end there is a hit.
-  pub hit-exists : {L : Limits} {ms : List Move} {u : State} → Path (grammarOf ws) L (started startOverEnd log) ms u
-      → (u .rest ≡ [] → ⊥) → (j i : ℕ) × Hit (grammarOf ws) (u .stack) (u .rest) j i
-  hit-exists path more =
-      Exists.hit-on-path (grammarOf ws) (nonterminalCount ws) 8 good (decFirstOf ws (accepted passes)) (decReliableOf ws) tokens path more
-
   module _ {editRoom ruleRoom : ℕ} {ms : List Move} (run : RunOf ws log editRoom ruleRoom ms none) where
-    -- Demand 2: "The repaired log .. must be derivable from START,
+    -- "The repaired log .. must be derivable from START,
     pub repaired-derivable : Derives (RuleOf ws) (START ∷ []) (repaired ms)
     repaired-derivable =
         subst (λ l. Derives (RuleOf ws) l (repaired ms)) opened
@@ -123,7 +180,7 @@ module _ (ws log : List ℕ) (passes : Verdict ws none) (fits : LogFits ws log) 
     pub kept-and-deleted : passed ms ≡ placed 0 (log ++ (END ∷ []))
     kept-and-deleted = Repaired.passed-log log run
 
-    -- Demand 2: there are no edits exactly when the log was correct.
+    -- There are no edits exactly when the log was correct.
     pub no-edits-exactly-when-correct : (edits ms ≡ []) ↔ Derives (RuleOf ws) (START ∷ []) log
     no-edits-exactly-when-correct = (
       λ none.
@@ -134,7 +191,25 @@ module _ (ws log : List ℕ) (passes : Verdict ws none) (fits : LogFits ws log) 
           (subst (λ l. Derives (RuleOf ws) l log) (sym opened) correct),
     )
 
--- ---- The same, of the parser's own answer: what stands in the edit buffer when it answers with counts
+-- ======== Demand 3: the moves are counted one by one (`countsOf`), and bounded
+
+-- Moves are at most 2 + n + R x N x n, of every run, also of one that is refused midway, where R bounds the right sides: 8 does, and
+-- so does the longest.
+pub moves-bounded : (ws log : List ℕ) → Verdict ws none → LogFits ws log
+    → {editRoom ruleRoom : ℕ} {ms : List Move} {o : Option Refusal} (R : ℕ)
+    → ((p : ℕ) → p < ruleCount ws → rightSize ws p ≤ R) → RunOf ws log editRoom ruleRoom ms o
+    → length ms ≤ 2 + length log + R * nonterminalCount ws * length log
+moves-bounded ws log passes fits R bound run =
+    Bounded.moves-bounded (grammarOf ws) (nonterminalCount ws) R (good-within ws (accepted passes) R bound)
+    (tokens ws log passes fits) run
+
+-- Case 12 is "the bound itself": its right sides have R = 0 symbols, and its run makes 2 + n + R x N x n moves.
+pub bound-itself : ((p : ℕ) → p < ruleCount (case12 .words) → rightSize (case12 .words) p ≤ 0)
+    × ((ms : List Move) → RunOf (case12 .words) (case12 .log) editRoom ruleRoom ms none
+    → length ms ≡ 2 + length (case12 .log) + 0 * nonterminalCount (case12 .words) * length (case12 .log))
+bound-itself = (Bound.case12-right-sides, λ ms run. Bound.case12-moves run)
+
+-- ======== Demands 2 and 3 of the parser's own answer: what stands in the edit buffer when it answers with counts
 
 pub record Kept (ws log : List ℕ) (editRoom : ℕ) (counts : Counts) (editBuffer : List ℕ) : Type 0 where
   -- the records in the buffer, as many as the answer says, and zeros behind them
@@ -165,58 +240,3 @@ parse-keeps {ws} {log} p =
           subst (λ n. n ≤ 2 + length log + R * nonterminalCount ws * length log) (sym (ap (λ (c : Counts). c .moves) (m .counted)))
           (moves-bounded ws log (m .verdict) (m .fits) R b (m .run));
     }
-
--- ---- A correction, which deletes j tokens and inserts i symbols at stack σ and rest ρ of the log
-
-module _ (ws : List ℕ) {σ ρ : List ℕ} {j i : ℕ} (chosen : Choice (grammarOf ws) σ ρ (correcting j i)) where
-  hit : Hit (grammarOf ws) σ ρ j i
-  hit = Chosen.correction-hit (grammarOf ws) chosen
-
-  -- It deletes the fewest tokens that a plausible correction can,
-  pub fewest-deletes : (h k : ℕ) → Plausible (grammarOf ws) σ (getD ρ h END) k → j ≤ h
-  fewest-deletes h k p = Chosen.fewest-deletes (grammarOf ws) hit p
-
-  -- and then inserts the fewest.
-  pub fewest-inserts : (k : ℕ) → Plausible (grammarOf ws) σ (getD ρ j END) k → i ≤ k
-  fewest-inserts k p = Chosen.fewest-inserts (grammarOf ws) hit p
-
-  -- What it inserts costs strictly less than the reliability of token r, unless that is END.
-  pub inserts-below-reliability : (getD ρ j END ≡ END → ⊥)
-      → (c : ℕ) × ListCost (RuleOf ws) (grammarOf ws .price) (take i σ) c × (c < reliability ws (getD ρ j END))
-  inserts-below-reliability n =
-      let p = hit .plausible in (p .cost, p .costs, strictly n (p .below))
-    where
-      strictly : {c t : ℕ} → (t ≡ END → ⊥) → Reliable ws c t → c < reliability ws t
-      strictly n (Reliable.unlimited e) = absurd (n e)
-      strictly n (Reliable.limited l) = l
-
--- "Otherwise t is in error and nothing has moved for it": behind an expand or a drop for t no correction follows at t.
-pub nothing-moved-in-error : (ws : List ℕ) {X t p j i : ℕ} {β σ ρ : List ℕ}
-    → (Choice (grammarOf ws) (X ∷ σ) (t ∷ ρ) (expanding p β) → Choice (grammarOf ws) (β ++ σ) (t ∷ ρ) (correcting j i) → ⊥)
-    × (Choice (grammarOf ws) (X ∷ σ) (t ∷ ρ) dropping → Choice (grammarOf ws) σ (t ∷ ρ) (correcting j i) → ⊥)
-nothing-moved-in-error ws = (
-  λ expand correct. Token.in-error correct (Token.expanded-fits expand),
-  λ drop correct. Token.in-error correct (Token.dropped-fits drop),
-)
-
--- ---- "Two answers allowed by it are shown equal": the verdict, the reader's answer, the parser's and the report's, with
--- every word of their buffers, for all inputs and all refusals
-
--- The verdict is one.
-pub verdict-unique : {ws : List ℕ} {o q : Option Refusal} → Verdict ws o → Verdict ws q → o ≡ q
-verdict-unique v w = lowest-unique v w
-
--- The reader's answer and its buffer are one.
-pub file-read-unique : {bytes : List ℕ} {room : ℕ} {a b : Outcome ℕ} {x y : List ℕ} → FileRead bytes room a x
-    → FileRead bytes room b y → (a ≡ b) × (x ≡ y)
-file-read-unique p q = Determined.file-read-unique p q
-
--- The parser's answer and its two buffers are one.
-pub parsed-unique : {ws log : List ℕ} {editRoom ruleRoom : ℕ} {a b : Outcome Counts} {x y u v : List ℕ}
-    → Parsed ws log editRoom ruleRoom a x u → Parsed ws log editRoom ruleRoom b y v → (a ≡ b) × (x ≡ y) × (u ≡ v)
-parsed-unique p q = Answers.parsed-unique p q
-
--- The report's answer and its two buffers are one.
-pub reported-unique : {ws log ticks : List ℕ} {editRoom ruleRoom : ℕ} {a b : Outcome (Report × Counts)} {x y u v : List ℕ}
-    → Reported ws log ticks editRoom ruleRoom a x u → Reported ws log ticks editRoom ruleRoom b y v → (a ≡ b) × (x ≡ y) × (u ≡ v)
-reported-unique p q = Answers.reported-unique p q

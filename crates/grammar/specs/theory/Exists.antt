@@ -51,7 +51,7 @@ limit-ending L s (expanding p β) = ending-stack (ltb (L .height) _) (ending-roo
 limit-ending L s dropping = Ending.ends
 limit-ending L s (correcting j i) = ending-room (leb _ (L .editRoom)) refl
 
--- "It ends, or is refused by 11 or 12."
+-- It ends, or is refused by 11 or 12.
 pub run-ending : {G : Grammar} {L : Limits} {s : State} {ms : List Move} {o : Option Refusal} → Run G L s ms o → Ending o
 run-ending (Run.ended e f) = Ending.ends
 run-ending (Run.moved c l r) = run-ending r
@@ -213,7 +213,7 @@ module _
       run-on a fuel (path-on G L q c e)
       (omega (arith, length-append ms (made u x), made-some (u .place) (u .records) (u .listed) c)))
 
-  -- "A run exists for every log": it ends, or is refused by 11 or 12.
+  -- A run exists for every log: it ends, or is refused by 11 or 12.
   pub run-exists : (L : Limits) {log : List ℕ} → All LogToken log
       → (ms : List Move) × (o : Option Refusal) × Run G L (started (G .begin) log) ms o × Ending o
   run-exists L {log = log} a =

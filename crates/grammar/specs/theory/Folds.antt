@@ -158,3 +158,22 @@ pub placed-length : (p : ℕ) (ts : List ℕ) → length (placed p ts) ≡ lengt
 unfolding placed
 placed-length p [] = refl
 placed-length p (t ∷ ts) = ap suc (placed-length (p + 1) ts)
+
+-- A record is a move, and so is a rule number listed.
+pub edits-few : (ms : List Move) → length (edits ms) ≤ length ms
+unfolding edits
+edits-few [] = omega arith
+edits-few (Move.match a b ∷ ms) = omega (arith, edits-few ms)
+edits-few (Move.expand a ∷ ms) = omega (arith, edits-few ms)
+edits-few (Move.drop a ∷ ms) = omega (arith, edits-few ms)
+edits-few (Move.delete a b ∷ ms) = omega (arith, edits-few ms)
+edits-few (Move.insert a b ∷ ms) = omega (arith, edits-few ms)
+
+pub rules-few : (ms : List Move) → length (ruleNumbers ms) ≤ length ms
+unfolding ruleNumbers
+rules-few [] = omega arith
+rules-few (Move.match a b ∷ ms) = omega (arith, rules-few ms)
+rules-few (Move.expand a ∷ ms) = omega (arith, rules-few ms)
+rules-few (Move.drop a ∷ ms) = omega (arith, rules-few ms)
+rules-few (Move.delete a b ∷ ms) = omega (arith, rules-few ms)
+rules-few (Move.insert a b ∷ ms) = omega (arith, rules-few ms)

@@ -143,7 +143,7 @@ module _ (G : Grammar) (N R : ℕ) (good : Good G N R) where
   pub lead-first : {t : ℕ} {α As : List ℕ} → Lead (G .rules) t α As → Terminal t → First (G .rules) α t
   lead-first l i = reach-first (G .rules) i (led l i .reach)
 
-  -- "A token takes at most N expands."
+  -- A token takes at most N expands.
   pub budget-full : {t : ℕ} (α : List ℕ) → Terminal t → Budget (G .rules) t α N
   budget-full α i As l = let h = led l i in distinct-bounded 64 N (h .distinct) (h .named)
 

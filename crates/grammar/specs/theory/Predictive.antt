@@ -67,7 +67,7 @@ module _ (G : Grammar) (N R : ℕ) (good : Good G N R) where
       form in
       omega (arith, ap length (same .behind), length-append (here .1) (t ∷ g .rest))
 
-  -- "A nonterminal that can be empty has no token in both its FIRST and its FOLLOW."
+  -- A nonterminal that can be empty has no token in both its FIRST and its FOLLOW.
   pub first-or-follow : {A t : ℕ} → CanBeEmpty (G .rules) (A ∷ []) → First (G .rules) (A ∷ []) t
       → Follow (G .rules) (G .begin) A t → ⊥
   first-or-follow {A = A} {t = t} c f w =
@@ -152,7 +152,7 @@ module _ (G : Grammar) (N R : ℕ) (good : Good G N R) where
   behind-nonterminal l (Ended.last e) = absurd (omega (arith, e))
   behind-nonterminal l (Ended.also h a) = a
 
-  -- "No nonterminal derives, in one or more steps, a form that begins with itself."
+  -- No nonterminal derives, in one or more steps, a form that begins with itself.
   pub no-left-recursion : {p A : ℕ} {β γ : List ℕ} → G .rules p A β → Derives (G .rules) β (A ∷ γ) → ⊥
   no-left-recursion {p = p} {A = A} {β = β} r d =
       let named = good .left p A β r in

@@ -1,6 +1,6 @@
 -- Demand 2: a run that ended leaves a repaired log that START derives, and kept and deleted tokens together are the log's
 -- tokens, each once, in order. What strings may be put for the inserted symbols is in Filled.antt.
--- Each choice keeps "the stack derives what the moves to come will leave".
+-- Each choice keeps that the stack derives what the moves to come will leave.
 use Prim.Native.Nat.{ℕ, _+_}
 use mathlib.Core.Path.{_≡_, refl, sym, ap, _∙_, subst, subst₂}
 use mathlib.Core.List.{List, [], _∷_, _++_, append-assoc, append-cancel-right, cons≢nil}

@@ -123,6 +123,6 @@ module _ (G : Grammar) (N R : ℕ) (good : Good G N R) where
       omega (arith, budgeted h k form (budget-expand G N R good form r (expand-by c .1) b))
   budgeted (Eaten.dropped {X = X} c h) k a b = budgeted h k (at-rest G N R good (X ∷ []) a) (budget-drop G N R good (drop-by c .0) b)
 
-  -- "A token takes at most N expands."
+  -- A token takes at most N expands.
   pub token-expands : {t : ℕ} {σ τ ρ : List ℕ} {xs : List Pick} → Eaten G t ρ σ xs τ → Terminal t → At G σ → expands xs ≤ N
   token-expands {σ = σ} e i a = budgeted e N a (budget-full G N R good σ i)

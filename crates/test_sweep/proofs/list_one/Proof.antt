@@ -1,8 +1,4 @@
 -- `test_sweep::list_one` meets its contract: the part of the input that was read is there.
-use mathlib.Core.Path.{sym}
-use native.Mathlib.Nat.{le-trans}
-use native.Mathlib.Omega.{arith}
-use lib.Seq.{length-take-le}
 use borrow.Author.Needs.{needs}
 use Rattle.test_sweep.proofs.list_one.Statement.{statement}
 use Rattle.test_sweep.proofs.list_one.Tie as tie
@@ -31,13 +27,8 @@ behind-requires c κs = search needs
 skip-requires : tie.Need-skip-requires
 skip-requires c κs = search needs
 
-array-share-prefix-input : tie.Need-array-share-prefix-input
-array-share-prefix-input c = search needs
-
 slice-aggregate-show : tie.Need-slice-aggregate-show
-slice-aggregate-show c =
-    let filled = c .before .before .before .before in
-    sym (length-take-le _ _ (le-trans (filled .fill .ensures) (omega (arith, filled .fill .kept .0))))
+slice-aggregate-show c = search needs
 
 slice-aggregate-show-2 : tie.Need-slice-aggregate-show-2
 slice-aggregate-show-2 c = search needs
@@ -69,7 +60,6 @@ list-one-spec =
     fill-requires
     behind-requires
     skip-requires
-    array-share-prefix-input
     slice-aggregate-show
     slice-aggregate-show-2
     show-requires

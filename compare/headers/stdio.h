@@ -1,0 +1,8 @@
+/* See stddef.h. */
+#pragma once
+#include <stddef.h>
+typedef struct _IO_FILE FILE;
+extern FILE *stdin, *stdout;
+size_t fread(void *to, size_t size, size_t count, FILE *from);
+size_t fwrite(const void *from, size_t size, size_t count, FILE *to);
+int fflush(FILE *file);

@@ -1,0 +1,166 @@
+-- Demand 1 of the reader, the check, the parser and the report: when each refusal is given, and what the buffers hold. `Demands` states
+-- it first.
+use Prim.Native.Nat.{ℕ, _<_}
+use mathlib.Core.Path.{_≡_, refl, sym, ap, subst, _∙_}
+use mathlib.Core.List.{List}
+use mathlib.Core.Logic.{_↔_, inl, inr}
+use mathlib.Core.Option.{Option, some}
+use native.Mathlib.Omega.{arith}
+use lib.ListN.{length}
+use Rattle.grammar.specs.Buffers.{filled, cleared}
+use Rattle.grammar.specs.Moves.{Move, edits, editWords, ruleNumbers}
+use Rattle.grammar.specs.Refusals.{Condition, Lowest, numberOf, Outcome, given, refused}
+use Rattle.grammar.specs.File.{fileConditions, fileWords, FileRead}
+use Rattle.grammar.specs.Grammar.{grammarConditions}
+use Rattle.grammar.specs.Run.{runConditions, Settled, RunOf, Parses, answered, countsOf, left}
+use Rattle.grammar.specs.Pace.{Reports}
+use Rattle.grammar.specs.declared.Refusal.{Refusal}
+use Rattle.grammar.specs.declared.Refusal.the-variants.{NoRoom}
+use Rattle.grammar.specs.declared.Counts.{Counts}
+use Rattle.grammar.specs.declared.Report.{Report}
+use Rattle.grammar.specs.theory.Answers.{admitted, runs-determined, settled-unique}
+use Rattle.grammar.specs.theory.Conditions.{Held, lowest-unique}
+use Rattle.grammar.specs.theory.Determined.{file-read-unique}
+use Rattle.grammar.specs.theory.Due.{Above, Due, Fails, InOrder, lowest-due, lowest-held}
+use Rattle.grammar.specs.theory.Outcomes.{given-refused, given-same, refused-same}
+
+-- ---- The conditions stand in the order of their numbers
+
+pub file-in-order : (bytes : List ℕ) (room : ℕ) → InOrder (fileConditions bytes room)
+unfolding Above
+file-in-order bytes room = (omega arith, (omega arith, (omega arith, (omega arith, tt))))
+
+pub grammar-in-order : (ws : List ℕ) → InOrder (grammarConditions ws)
+unfolding Above
+grammar-in-order ws = (omega arith, (omega arith, (omega arith, (omega arith, (omega arith, tt)))))
+
+pub run-in-order : (ws log : List ℕ) (Asked : Type 0) → InOrder (runConditions ws log Asked)
+unfolding Above
+run-in-order ws log Asked = (omega arith, (omega arith, (omega arith, (omega arith, (omega arith, (omega arith, tt))))))
+
+-- ---- The check
+
+pub lowest-exactly : {cs : List Condition} {o : Option Refusal} → InOrder cs → Lowest cs o → (r : Refusal) → (o ≡ some r) ↔ Due cs r
+lowest-exactly {cs} order l r = (
+  λ e. lowest-due cs order r .0 (subst (λ q. Lowest cs q) e l),
+  λ d. lowest-unique l (lowest-due cs order r .1 d),
+)
+
+-- ---- The reader
+
+module _ {bytes : List ℕ} {room : ℕ} where
+  due-file : (r : Refusal) → Lowest (fileConditions bytes room) (some r) ↔ Due (fileConditions bytes room) r
+  due-file r = lowest-due (fileConditions bytes room) (file-in-order bytes room) r
+
+  refused-due : {a : Outcome ℕ} {x : List ℕ} {r : Refusal} → FileRead bytes room a x → a ≡ refused r → Due (fileConditions bytes room) r
+  refused-due (FileRead.read l) e = absurd (given-refused refl e)
+  refused-due (FileRead.refuse {r = q} l) e = subst (λ r. Due (fileConditions bytes room) r) (refused-same e) (due-file q .0 l)
+
+  pub reader-exactly : {a : Outcome ℕ} {x : List ℕ} → FileRead bytes room a x → (r : Refusal)
+      → (a ≡ refused r) ↔ Due (fileConditions bytes room) r
+  reader-exactly p r = (λ e. refused-due p e, λ d. file-read-unique p (FileRead.refuse (due-file r .1 d)) .0)
+
+  pub reader-zeros : {a : Outcome ℕ} {x : List ℕ} {r : Refusal} → FileRead bytes room a x → a ≡ refused r → x ≡ cleared room
+  reader-zeros (FileRead.read l) e = absurd (given-refused refl e)
+  reader-zeros (FileRead.refuse l) e = refl
+
+  pub reader-words : {a : Outcome ℕ} {x : List ℕ} {n : ℕ} → FileRead bytes room a x → a ≡ given n
+      → (n ≡ length (fileWords bytes)) × (x ≡ filled room (fileWords bytes))
+  reader-words (FileRead.read l) e = (sym (given-same e), refl)
+  reader-words (FileRead.refuse l) e = absurd (given-refused e refl)
+
+-- ---- The run of a log, which the parser and the report share
+
+-- Refusal r is given: it is due before the run; or all conditions hold, and the run makes the moves ms and meets it.
+pub data Given (Asked : Type 0) (ws log : List ℕ) (editRoom ruleRoom : ℕ) (r : Refusal) : Type 0 where
+  before : Due (runConditions ws log Asked) r → Given Asked ws log editRoom ruleRoom r
+  within : {ms : List Move} → Held (runConditions ws log Asked) → RunOf ws log editRoom ruleRoom ms (some r)
+      → Given Asked ws log editRoom ruleRoom r
+
+due-run : {Asked : Type 0} {ws log : List ℕ} (r : Refusal)
+    → Lowest (runConditions ws log Asked) (some r) ↔ Due (runConditions ws log Asked) r
+due-run {Asked} {ws} {log} r = lowest-due (runConditions ws log Asked) (run-in-order ws log Asked) r
+
+-- No condition before a run has refusal 12.
+other : {r q : Refusal} → numberOf r < numberOf q → r ≡ q → ⊥
+other l e = omega (arith, ap numberOf e)
+
+pub due-not-room : (ws log : List ℕ) (Asked : Type 0) → Due (runConditions ws log Asked) NoRoom → ⊥
+unfolding Fails
+due-not-room ws log Asked d = go (d .fails)
+  where
+    go : Fails (runConditions ws log Asked) NoRoom → ⊥
+    go (inl f) = other (omega arith) (f .0)
+    go (inr (inl f)) = other (omega arith) (f .0)
+    go (inr (inr (inl f))) = other (omega arith) (f .0)
+    go (inr (inr (inr (inl f)))) = other (omega arith) (f .0)
+    go (inr (inr (inr (inr (inl f))))) = other (omega arith) (f .0)
+    go (inr (inr (inr (inr (inr (inl f)))))) = other (omega arith) (f .0)
+    go (inr (inr (inr (inr (inr (inr f)))))) = absurd f
+
+module _ {Asked : Type 0} {ws log : List ℕ} {editRoom ruleRoom : ℕ} where
+  settled-given : {o : Outcome (List Move)} {r : Refusal} → Settled (runConditions ws log Asked) (RunOf ws log editRoom ruleRoom) o
+      → o ≡ refused r → Given Asked ws log editRoom ruleRoom r
+  settled-given (Settled.whole l k) e = absurd (given-refused refl e)
+  settled-given (Settled.before {r = q} l) e =
+      subst (λ r. Given Asked ws log editRoom ruleRoom r) (refused-same e) (Given.before (due-run q .0 l))
+  settled-given (Settled.within l k) e =
+      subst (λ r. Given Asked ws log editRoom ruleRoom r) (refused-same e)
+      (Given.within (lowest-held (runConditions ws log Asked) .0 l) k)
+
+  given-settled : {r : Refusal} → Given Asked ws log editRoom ruleRoom r
+      → Settled (runConditions ws log Asked) (RunOf ws log editRoom ruleRoom) (refused r)
+  given-settled {r} (Given.before d) = Settled.before (due-run r .1 d)
+  given-settled (Given.within h k) = Settled.within (lowest-held (runConditions ws log Asked) .1 h) k
+
+  module _ {o : Outcome (List Move)} {x y : List ℕ} (p : Parses Asked ws log editRoom ruleRoom o x y) where
+    pub parses-exactly : (r : Refusal) → (o ≡ refused r) ↔ Given Asked ws log editRoom ruleRoom r
+    parses-exactly r = (
+      λ e. settled-given (p .settled) e,
+      λ g. settled-unique (λ l ms ns a b u v. runs-determined (admitted l) u v) (p .settled) (given-settled g),
+    )
+
+    pub parses-zeros : {r : Refusal} → o ≡ refused r → (x ≡ cleared editRoom) × (y ≡ cleared ruleRoom)
+    unfolding left
+    parses-zeros e = (
+      p .leaves-edits ∙ ap (left (λ ms. editWords (edits ms)) editRoom) e,
+      p .leaves-rules ∙ ap (left ruleNumbers ruleRoom) e,
+    )
+
+    pub parses-words : {ms : List Move} → o ≡ given ms
+        → (x ≡ filled editRoom (editWords (edits ms))) × (y ≡ filled ruleRoom (ruleNumbers ms))
+    unfolding left
+    parses-words e = (
+      p .leaves-edits ∙ ap (left (λ ms. editWords (edits ms)) editRoom) e,
+      p .leaves-rules ∙ ap (left ruleNumbers ruleRoom) e,
+    )
+
+-- ---- The parser's answer and the report's, over what the log comes to
+
+answer-refused : (o : Outcome (List Move)) {r : Refusal} → answered o ≡ refused r → o ≡ refused r
+unfolding answered
+answer-refused (given ms) e = absurd (given-refused refl e)
+answer-refused (refused q) e = ap refused (refused-same e)
+
+refused-answer : (r : Refusal) → answered (refused r) ≡ refused r
+unfolding answered
+refused-answer r = refl
+
+pub answered-refused : {o : Outcome (List Move)} {a : Outcome Counts} (r : Refusal) → a ≡ answered o → (a ≡ refused r) ↔ (o ≡ refused r)
+answered-refused {o} r e = (λ f. answer-refused o (sym e ∙ f), λ f. e ∙ (ap answered f ∙ refused-answer r))
+
+pub answered-given : (o : Outcome (List Move)) {counts : Counts} → given counts ≡ answered o
+    → (ms : List Move) × (o ≡ given ms) × (counts ≡ countsOf ms)
+unfolding answered
+answered-given (given ms) e = (ms, refl, given-same e)
+answered-given (refused r) e = absurd (given-refused refl e)
+
+pub reports-refused : {ws ticks : List ℕ} {o : Outcome (List Move)} {a : Outcome (Report × Counts)} (r : Refusal) → Reports ws ticks o a
+    → (a ≡ refused r) ↔ (o ≡ refused r)
+reports-refused r (Reports.paced c) = (λ e. absurd (given-refused refl e), λ e. absurd (given-refused refl e))
+reports-refused r Reports.unpaced = (λ e. ap refused (refused-same e), λ e. ap refused (refused-same e))
+
+pub reports-given : {ws ticks : List ℕ} {o : Outcome (List Move)} {a : Outcome (Report × Counts)} {report : Report} {counts : Counts}
+    → Reports ws ticks o a → a ≡ given (report, counts) → (ms : List Move) × (o ≡ given ms) × (counts ≡ countsOf ms)
+reports-given (Reports.paced {ms = ms} c) e = (ms, refl, sym (ap (λ (x : Report × Counts). x .1) (given-same e)))
+reports-given Reports.unpaced e = absurd (given-refused e refl)

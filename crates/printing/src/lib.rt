@@ -1,0 +1,96 @@
+// The printing program but for its name: document 01, "The printed listing". It reads standard input to its end, keeps the bytes that
+// decide the listing, and writes the listing. A read that fails is never taken for the end: nothing is printed then.
+ghost use Prim.Native.Nat.{_≤_};
+ghost use mathlib.Core.Path.{_≡_};
+ghost use lib.ListN.{length};
+ghost use Rattle.printing.specs.Input.{InputFits, PartFits, partOf};
+
+// What a read came to. `partOf` of specs/Input.antt says which is which.
+pub enum Part {
+    Bytes(usize),
+    End,
+    Failed,
+}
+
+// What is known of standard input behind its last read: how many of its bytes are kept, or that a read failed.
+pub enum Input {
+    Kept(usize),
+    Failed,
+}
+
+// Prints the listing of standard input. Where a read or a write fails, standard error gets a line that says so. The room has the count,
+// 11 blocks and 4,097 entries: `show` asks for as much.
+pub fn run() {
+    let mut room = [0u8; 30216];
+    let input = read_input(&mut room);
+    match input {
+        Input::Kept(size) => print(&room, size),
+        Input::Failed => tell(b"odhrashup: standard input could not be read\n"),
+    }
+}
+
+// Prints the listing of an input of which the room holds the first bytes.
+fn print(room: &[u8], size: usize)
+    requires { ⌜ 30216 ≤ length (now room) ⌝ }
+    requires { ⌜ size ≤ length (now room) ⌝ }
+{
+    let mut out = [0u8; 155817];
+    let count = listing::show(room, size, &mut out);
+    if io::write_all(1, &out[..count]) {
+        return;
+    }
+    tell(b"odhrashup: the listing could not be written\n");
+}
+
+// Writes a line to standard error. Where that fails too, nothing is left to be done.
+fn tell(line: &[u8]) {
+    io::write_all(2, line);
+}
+
+// Reads standard input to its end and keeps as much of it as the room holds. A proved loop has to end, and nothing says that the
+// input does: the turns are more than any input has.
+fn read_input(room: &mut [u8]) -> Input
+    ensures { λ r. ⌜ InputFits (now (room .exit)) r ⌝ }
+{
+    let mut space = io::large_buffer();
+    let chunk: &mut [u8] = &mut space;
+    let mut size = 0;
+    let mut turns: u64 = 18446744073709551615;
+    while turns > 0 {
+        let part = read_part(chunk);
+        match part {
+            Part::Bytes(count) => {
+                size = listing::keep(room, size, &chunk[..count]);
+            }
+            Part::End => {
+                return Input::Kept(size);
+            }
+            Part::Failed => {
+                return Input::Failed;
+            }
+        }
+        turns -= 1;
+    }
+    Input::Failed
+}
+
+// Reads a part of standard input to the front of the space.
+fn read_part(space: &mut [u8]) -> Part
+    ensures { λ r. ⌜ PartFits (now (space .exit)) r ⌝ }
+{
+    let got = libc::read(0, space);
+    part_of(got, space)
+}
+
+// What a read came to that answered `got`.
+fn part_of(got: isize, space: &[u8]) -> Part
+    ensures { λ r. ⌜ r ≡ partOf got (length (now (space .entry))) ⌝ }
+{
+    if got < 0 {
+        return Part::Failed;
+    }
+    if got == 0 {
+        return Part::End;
+    }
+    Part::Bytes(io::count(got, space))
+}
