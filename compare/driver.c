@@ -18,7 +18,7 @@ static void take_sizes(int count) {
     if (fread(sizes, 4, (size_t)count, stdin) != (size_t)count) exit(1);
 }
 
-static void give(int k) { fwrite(lent[k], 2, sizes[k], stdout); }
+static void give(int k, size_t bytes) { fwrite(lent[k], bytes, sizes[k], stdout); }
 
 int main(void) {
     uint32_t kind;
@@ -38,15 +38,20 @@ int main(void) {
             take_sizes(4), take(0, 2), take(1, 2), take(2, 2), take(3, 2);
             mean[0] = 0;
             status = odhrashup_parse(lent[0], sizes[0], lent[1], sizes[1], lent[2], sizes[2], lent[3], sizes[3], counts, 3);
+        } else if (kind == 4) {
+            take_sizes(2), take(0, 2), take(1, 1);
+            mean[0] = 0;
+            status = odhrashup_write(lent[0], sizes[0], lent[1], sizes[1], counts, 3);
         } else {
             take_sizes(5), take(0, 2), take(1, 2), take(2, 4), take(3, 2), take(4, 2);
             status = odhrashup_pace(lent[0], sizes[0], lent[1], sizes[1], lent[2], sizes[2], lent[3], sizes[3], lent[4],
                                     sizes[4], counts, 3, mean, 1);
         }
         fwrite(&status, 4, 1, stdout), fwrite(counts, 8, 3, stdout), fwrite(mean, 8, 1, stdout);
-        if (kind == 0) give(1);
-        if (kind == 2) give(2), give(3);
-        if (kind == 3) give(3), give(4);
+        if (kind == 0) give(1, 2);
+        if (kind == 2) give(2, 2), give(3, 2);
+        if (kind == 3) give(3, 2), give(4, 2);
+        if (kind == 4) give(1, 1);
         fflush(stdout);
     }
     return 0;

@@ -1,4 +1,4 @@
-/* A bench that links the library: each function once, then an idle station and four refusals. `examples/bench` builds and runs it; on an
+/* A bench that links the library: each function once, then an idle station and five refusals. `examples/bench` builds and runs it; on an
  * x86-64 Linux that is
  *
  *    ./library
@@ -13,21 +13,6 @@
 static const uint16_t grammar[] = {7, 4,  6, 1, 4, 0, 0, 0,  20, 60, 3, 9, 5, 15, 4, 40, 3, 2, 3, 2, 0,
                                    2, 65, 64, 0, 0, 1, 3, 1, 66, 4,  2, 3, 2, 67, 3, 3,  2, 5, 6, 3, 0};
 
-static void put16(uint8_t *at, unsigned n) {
-    at[0] = (uint8_t)n;
-    at[1] = (uint8_t)(n >> 8);
-}
-
-/* The grammar file of one block: number, words used, 253 words, check. */
-static void make_file(uint8_t *block) {
-    unsigned long sum = 0;
-    for (int i = 0; i < 512; i++) block[i] = 0;
-    put16(block + 2, LEN(grammar));
-    for (size_t i = 0; i < LEN(grammar); i++) put16(block + 4 + 2 * i, grammar[i]);
-    for (unsigned i = 0; i < 510; i++) sum += (i + 1ul) * block[i];
-    put16(block + 510, (unsigned)(sum % 65521));
-}
-
 /* The status decides what is shown. An idle station has no figure, and a refusal has a number only. */
 static void show(const char *what, uint32_t status, const uint64_t *counts, const double *mean) {
     if (status == 0)
@@ -40,7 +25,7 @@ static void show(const char *what, uint32_t status, const uint64_t *counts, cons
 }
 
 int main(void) {
-    static uint8_t file[512];
+    static uint8_t file[ODHRASHUP_BYTES_ENOUGH];
     static uint16_t words[ODHRASHUP_WORDS_ENOUGH], edits[ODHRASHUP_EDITS_LENT], rules[ODHRASHUP_RULES_LENT];
     uint64_t counts[ODHRASHUP_PARSE_COUNTS];
     double mean[1];
@@ -50,8 +35,12 @@ int main(void) {
     const uint32_t ticks[] = {100, 250, 400, 900, 1250};
     const uint16_t strange[] = {1, 99};
 
-    make_file(file);
-    uint32_t status = odhrashup_read(file, LEN(file), words, LEN(words), counts, LEN(counts));
+    uint32_t status = odhrashup_write(grammar, LEN(grammar), file, LEN(file), counts, LEN(counts));
+    size_t size = (size_t)counts[ODHRASHUP_WRITE_BYTES];
+    printf("write: status %u, %zu bytes, check %u\n", status, size, file[510] + 256u * file[511]);
+
+    /* Of the buffer only the bytes written are the file. */
+    status = odhrashup_read(file, size, words, LEN(words), counts, LEN(counts));
     size_t n = (size_t)counts[ODHRASHUP_READ_WORDS];
     printf("read: status %u, %zu words\n", status, n);
 
@@ -83,8 +72,10 @@ int main(void) {
     show("room for one edit", status, counts, mean);
 
     file[9] ^= 1;
-    status = odhrashup_read(file, LEN(file), words, LEN(words), counts, LEN(counts));
+    status = odhrashup_read(file, size, words, LEN(words), counts, LEN(counts));
     printf("a damaged file: refused %u, %llu words\n", status, (unsigned long long)counts[ODHRASHUP_READ_WORDS]);
     printf("no words: refused %u\n", odhrashup_check(words, 0));
+    status = odhrashup_write(grammar, LEN(grammar), file, ODHRASHUP_BYTES_FOR(LEN(grammar)) - 1, counts, LEN(counts));
+    printf("a byte too few: refused %u, %llu bytes\n", status, (unsigned long long)counts[ODHRASHUP_WRITE_BYTES]);
     return 0;
 }

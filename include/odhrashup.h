@@ -8,10 +8,10 @@
  * Calls share no state and keep nothing: they may run at the same time in several threads, as long as no call writes what another
  * reads or writes. They allocate nothing and open nothing.
  *
- * Stack: less than 1 KiB for odhrashup_read, 4 KiB for odhrashup_check, 20 KiB for odhrashup_parse and odhrashup_pace, whatever
- * the input. (Measured, not proved: 104, 2,760, 16,360 and 16,424 bytes.)
+ * Stack: less than 1 KiB for odhrashup_read and odhrashup_write, 4 KiB for odhrashup_check, 20 KiB for odhrashup_parse and
+ * odhrashup_pace, whatever the input. (Measured, not proved: 104, 184, 2,760, 16,360 and 16,424 bytes.)
  *
- * Each function answers a status: 0, ODHRASHUP_IDLE, or the number of a refusal, 1 to 12:
+ * Each function answers a status: 0, ODHRASHUP_IDLE, or the number of a refusal, 1 to 14:
  *    1 file empty, not a multiple of 512, or over 5,632 bytes      7 a nonterminal derives no terminal string
  *    2 some block's check is wrong                                 8 a nonterminal costs over 60,000
  *    3 some block number, use count or unused word is wrong        9 two rules share a predict token
@@ -20,12 +20,14 @@
  *    6 a nonterminal is unreachable                               11 an expand would leave more than 256 symbols on the
  *                                                                    stack, END counted
  *                                                                 12 the next rule number or edit record does not fit
- * The lowest of 1 to 10 that applies is given; 11 and 12 come from the first move that meets them.
+ *                                                                 13 there are no words to write, or more than 2,783
+ *                                                                 14 the byte buffer is shorter than the file
+ * The lowest of 1 to 10, 13 and 14 that applies to a call is given; 11 and 12 come from the first move that meets them.
  *
- * What is left in a buffer that is written (words, edits, rules, counts, mean), in every element of it:
+ * What is left in a buffer that is written (words, bytes, edits, rules, counts, mean), in every element of it:
  *  - after a refusal zeros, and no more;
  *  - otherwise the values named below, and zeros behind them. `counts` and `mean` may be shorter than their values, or empty: they get
- *    those that fit, and this is no refusal. `words`, `edits` and `rules` hold all or the call is refused, by 4 or 12.
+ *    those that fit, and this is no refusal. `words`, `bytes`, `edits` and `rules` hold all or the call is refused, by 4, 14 or 12.
  *
  * docs/RULES.md has the rules, docs/TRUST.md what is proved of these functions. This header itself is checked by nothing.
  */
@@ -46,6 +48,9 @@ extern "C" {
 
 #define ODHRASHUP_READ_WORDS 0 /* odhrashup_read: the number of words */
 #define ODHRASHUP_READ_COUNTS 1
+
+#define ODHRASHUP_WRITE_BYTES 0 /* odhrashup_write: the number of bytes */
+#define ODHRASHUP_WRITE_COUNTS 1
 
 #define ODHRASHUP_PARSE_MOVES 0 /* odhrashup_parse: moves made */
 #define ODHRASHUP_PARSE_EDITS 1 /* edit records, of three words each */
@@ -71,6 +76,11 @@ extern "C" {
 /* Enough for the words of every file: eleven blocks of 253. Refusal 4 cannot be given. */
 #define ODHRASHUP_WORDS_ENOUGH 2783
 
+/* What the file of n words takes, n from 1 to ODHRASHUP_WORDS_ENOUGH: blocks of 512 bytes with 253 words each. Refusal 14 is given
+ * exactly for less. With ODHRASHUP_BYTES_ENOUGH, eleven blocks, it cannot be given. */
+#define ODHRASHUP_BYTES_FOR(n) ((size_t)512 * (((size_t)(n) + 252) / 253))
+#define ODHRASHUP_BYTES_ENOUGH 5632
+
 /* Enough for a log of n tokens, n at most ODHRASHUP_MOST_TOKENS, whatever the grammar: that refusal 12 is never given with these is
  * proved. A record for each of at most 2 + n + 8 x 64 x n moves, and 64 rules for each token. For 4,096 tokens that are 6,303,750 words
  * (13 MB) and 262,144 words. */
@@ -86,6 +96,12 @@ extern "C" {
 /* Reads a grammar file. Status 0, or 1 to 4. `words` gets the file's words, counts[ODHRASHUP_READ_WORDS] their number. */
 uint32_t odhrashup_read(const uint8_t *bytes, size_t bytes_len, uint16_t *words, size_t words_len, uint64_t *counts,
                         size_t counts_len);
+
+/* Writes a grammar file. Status 0, 13 or 14. The words are not checked: any 1 to 2,783 are written. `bytes` gets the file of the words,
+ * counts[ODHRASHUP_WRITE_BYTES] the number of its bytes. Only these are the file: read back, they give the words; with the zeros behind
+ * them they are another file, which is refused. */
+uint32_t odhrashup_write(const uint16_t *words, size_t words_len, uint8_t *bytes, size_t bytes_len, uint64_t *counts,
+                         size_t counts_len);
 
 /* Checks grammar words. Status 0 where they are accepted, or 5 to 9. */
 uint32_t odhrashup_check(const uint16_t *words, size_t words_len);

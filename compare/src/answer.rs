@@ -1,6 +1,7 @@
-//! What an implementation of document 01 answers, besides the buffers it was lent.
+//! What an implementation of document 01, and of request (i) of document 02, answers, besides the
+//! buffers it was lent.
 
-/// A refusal number, 1 to 12 of the table.
+/// A refusal number: 1 to 12 of the table, 13 and 14 of request (i).
 pub type Refusal = u16;
 
 /// Longest log: "over 4,096 tokens" is refusal 10.
@@ -9,6 +10,11 @@ pub const MOST_TOKENS: usize = 4_096;
 pub const LISTING_WORDS: usize = 2_783;
 pub const LISTING_EDITS: usize = 24_576;
 pub const LISTING_RULES: usize = 16_384;
+
+/// The most words that are written: "more than 2,783" is refusal 13.
+pub const MOST_WORDS: usize = 2_783;
+/// The most bytes of a file: "over 5,632 bytes" is refusal 1. `write_grammar` has a buffer of as many.
+pub const LONGEST_FILE: usize = 5_632;
 
 /// The counts of a parse that was not refused.
 #[derive(Clone, Copy, Debug, PartialEq, Eq)]
@@ -55,6 +61,10 @@ pub trait Implementation {
 
     /// Reads a grammar file: its words into `words`, their number as the answer.
     fn read(&self, file: &[u8], words: &mut [u16]) -> Result<usize, Refusal>;
+
+    /// Writes the grammar file of any words into `bytes`, the number of its bytes as the answer;
+    /// refusals 13 and 14.
+    fn write(&self, words: &[u16], bytes: &mut [u8]) -> Result<usize, Refusal>;
 
     /// Checks grammar words, refusals 5 to 9.
     fn check(&self, words: &[u16]) -> Result<(), Refusal>;

@@ -4,7 +4,7 @@ use crate::answer::{Pace, Prints, Refusal};
 use crate::generate::Input;
 
 /// Everything an implementation gives back for one input: the refusal or the numbers it
-/// answers, and every word of every buffer it was lent.
+/// answers, and every word or byte of every buffer it was lent.
 #[derive(Clone, Debug, PartialEq, Eq)]
 pub struct Outcome {
     /// Numbers in the order of the answer's fields; a mean by its bits, behind a 1; idle a 0.
@@ -21,6 +21,11 @@ pub fn outcome(implementation: &dyn Prints, input: &Input) -> Outcome {
         Input::Read { file, mut words } => {
             let answer = implementation.read(&file, &mut words);
             (answer.map(|count| vec![count as u64]), vec![words])
+        }
+        Input::Write { words, mut bytes } => {
+            let answer = implementation.write(&words, &mut bytes);
+            let bytes = bytes.iter().map(|&byte| u16::from(byte)).collect();
+            (answer.map(|size| vec![size as u64]), vec![bytes])
         }
         Input::Check { words } => {
             let answer = implementation.check(&words);

@@ -1,5 +1,8 @@
-//! The bench examples of document 01 and its further claims. The expected results are
-//! written by hand from the document's table, never taken from a program.
+//! The bench examples of document 01 and its further claims, and in [`writing`] the examples of
+//! request (i). The expected results are written by hand from the documents, never taken from a
+//! program.
+
+pub mod writing;
 
 use crate::answer::{Pace, Prints};
 use crate::generate::families::bench_g;
@@ -263,6 +266,8 @@ mod tests {
     fn both_implementations_meet_every_example() {
         assert_eq!(failures(&Plain), Vec::<String>::new());
         assert_eq!(failures(&Tuned::default()), Vec::<String>::new());
+        assert_eq!(writing::failures(&Plain), Vec::<String>::new());
+        assert_eq!(writing::failures(&Tuned::default()), Vec::<String>::new());
     }
 
     #[test]

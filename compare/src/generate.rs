@@ -1,5 +1,5 @@
-//! Seeded inputs for every part of document 01: grammars, logs, ticks, grammar files, standard
-//! input and lent buffers. Equal seeds give equal inputs.
+//! Seeded inputs for every part of document 01 and of request (i): grammars, logs, ticks, grammar
+//! files, standard input, lists of words, texts and lent buffers. Equal seeds give equal inputs.
 
 pub mod buffers;
 pub mod draft;
@@ -8,8 +8,10 @@ pub mod families;
 pub mod file;
 pub mod grammar;
 pub mod input;
+pub mod list;
 pub mod log;
 pub mod random;
+pub mod text;
 
 pub use draft::Draft;
 pub use input::{Input, Source};

@@ -1,15 +1,16 @@
-//! An implementation of document 01 that shares nothing with the proved one, and what is
-//! needed to compare implementations with each other.
+//! An implementation of document 01, and of request (i) of document 02, that shares nothing with the
+//! proved one, and what is needed to compare implementations with each other.
 //!
 //! * [`answer`]: what every implementation answers, and the trait they share;
-//! * [`plain`]: the plain implementation, a sentence of the document at a time;
+//! * [`plain`]: the plain implementation, a sentence of the documents at a time;
 //! * [`tuned`]: the same answers, made for speed;
 //! * [`library`]: the proved implementation, behind its C interface;
 //! * `linked`: the same, linked into the benchmark;
 //! * [`implementations`]: the list of those that are compared and measured;
 //! * [`generate`]: seeded inputs of every kind;
 //! * [`differ`]: runs one input on implementations and tells the first difference;
-//! * [`examples`]: the bench examples of document 01, expected results written by hand;
+//! * [`examples`]: the bench examples of document 01 and those of request (i), expected results written
+//!   by hand;
 //! * [`telling`]: inputs shaped by hand, each to tell a wrong reading apart;
 //! * [`steps`]: the stored calls of the test programs;
 //! * [`stored`]: the plain implementation on all that the programs in the gate have stored.

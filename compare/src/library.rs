@@ -57,17 +57,17 @@ impl Asked {
 
     fn get<const N: usize>(&mut self) -> [u8; N] {
         let mut bytes = [0; N];
-        self.from
-            .read_exact(&mut bytes)
-            .expect("the process answers");
+        self.get_bytes(&mut bytes);
         bytes
+    }
+
+    fn get_bytes(&mut self, bytes: &mut [u8]) {
+        self.from.read_exact(bytes).expect("the process answers");
     }
 
     fn get_u16s(&mut self, words: &mut [u16]) {
         let mut bytes = vec![0; 2 * words.len()];
-        self.from
-            .read_exact(&mut bytes)
-            .expect("the process answers");
+        self.get_bytes(&mut bytes);
         for (word, pair) in words.iter_mut().zip(bytes.chunks(2)) {
             *word = u16::from_le_bytes([pair[0], pair[1]]);
         }
@@ -99,7 +99,7 @@ impl Library {
 
 /// A refusal carries no counts and no mean; without one the counts behind those given are zero.
 fn outcome(status: u32, counts: [u64; 3], mean: f64, used: usize) -> Result<[u64; 3], Refusal> {
-    if (1..=12).contains(&status) {
+    if (1..=14).contains(&status) {
         assert_eq!(
             (counts, mean.to_bits()),
             ([0; 3], 0),
@@ -129,6 +129,19 @@ impl Implementation for Library {
         driver.ask();
         let (status, counts, mean) = driver.head();
         driver.get_u16s(words);
+        outcome(status, counts, mean, 1).map(|counts| counts[0] as usize)
+    }
+
+    fn write(&self, words: &[u16], bytes: &mut [u8]) -> Result<usize, Refusal> {
+        let mut driver = self.driver.borrow_mut();
+        driver.put_u32(4);
+        driver.put_u32(words.len());
+        driver.put_u32(bytes.len());
+        driver.put_u16s(words);
+        driver.put(bytes);
+        driver.ask();
+        let (status, counts, mean) = driver.head();
+        driver.get_bytes(bytes);
         outcome(status, counts, mean, 1).map(|counts| counts[0] as usize)
     }
 

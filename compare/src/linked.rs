@@ -13,6 +13,14 @@ extern "C" {
         counts: *mut u64,
         counts_len: usize,
     ) -> u32;
+    fn odhrashup_write(
+        words: *const u16,
+        words_len: usize,
+        bytes: *mut u8,
+        bytes_len: usize,
+        counts: *mut u64,
+        counts_len: usize,
+    ) -> u32;
     fn odhrashup_check(words: *const u16, words_len: usize) -> u32;
     fn odhrashup_parse(
         words: *const u16,
@@ -48,9 +56,9 @@ extern "C" {
 /// library asks.
 pub struct Linked;
 
-/// A status of 1 to 12 is a refusal.
+/// A status of 1 to 14 is a refusal.
 fn outcome<A>(status: u32, answer: A) -> Result<A, Refusal> {
-    if (1..=12).contains(&status) {
+    if (1..=14).contains(&status) {
         Err(status as Refusal)
     } else {
         Ok(answer)
@@ -70,6 +78,21 @@ impl Implementation for Linked {
                 file.len(),
                 words.as_mut_ptr(),
                 words.len(),
+                counts.as_mut_ptr(),
+                counts.len(),
+            )
+        };
+        outcome(status, counts[0] as usize)
+    }
+
+    fn write(&self, words: &[u16], bytes: &mut [u8]) -> Result<usize, Refusal> {
+        let mut counts = [0];
+        let status = unsafe {
+            odhrashup_write(
+                words.as_ptr(),
+                words.len(),
+                bytes.as_mut_ptr(),
+                bytes.len(),
                 counts.as_mut_ptr(),
                 counts.len(),
             )

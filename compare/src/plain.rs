@@ -1,6 +1,6 @@
-//! The plain implementation of document 01. It is meant to be read beside the document:
-//! sets are textbook fixpoints, the stack is inspected literally, and comments in quotes are
-//! the document's own words. Nothing here is made for speed.
+//! The plain implementation of document 01 and of request (i) of document 02. It is meant to be read
+//! beside the documents: sets are textbook fixpoints, the stack is inspected literally, and comments
+//! in quotes are the documents' own words. Nothing here is made for speed.
 
 mod check;
 mod grammar;
@@ -9,6 +9,8 @@ mod pace;
 mod parse;
 mod reader;
 mod sets;
+mod text;
+mod writer;
 
 pub use check::check;
 pub use grammar::{Grammar, Rule, END, START};
@@ -17,6 +19,8 @@ pub use pace::report;
 pub use parse::{needed, parse};
 pub use reader::read;
 pub use sets::{Sets, TerminalSet};
+pub use text::{words_of_text, write_grammar};
+pub use writer::write;
 
 use crate::answer::{Implementation, Parsed, Prints, Refusal, Report};
 
@@ -30,6 +34,10 @@ impl Implementation for Plain {
 
     fn read(&self, file: &[u8], words: &mut [u16]) -> Result<usize, Refusal> {
         read(file, words)
+    }
+
+    fn write(&self, words: &[u16], bytes: &mut [u8]) -> Result<usize, Refusal> {
+        write(words, bytes)
     }
 
     fn check(&self, words: &[u16]) -> Result<(), Refusal> {

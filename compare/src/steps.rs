@@ -1,11 +1,14 @@
 //! The stored calls of the test programs `test_parse` and `test_pace`: steps that set words, tokens
-//! and ticks and then call, and for each call the line that the plain implementation answers.
+//! and ticks and then call, and for each call the line that the plain implementation answers. Those of
+//! the writer stand in [`writing`].
 //!
 //! Both files are made of numbers of two bytes, little endian. `test_parse` has five to a step:
 //! 0 PLACE WORD 0 0 sets a word of the grammar, 1 PLACE TOKEN 0 0 a token of the log, and
 //! 2 WORDS TOKENS E R parses so many words and tokens with E words for edits and R for rules.
 //! `test_pace` has six: 0 PLACE WORD 0 0 0, then 1 PLACE TOKEN LOW HIGH 0, which also sets the tick
 //! at that place, and 2 WORDS TOKENS TICKS E R, which asks for the report.
+
+pub mod writing;
 
 use crate::answer::{Pace, Parsed, Refusal, Report};
 use crate::plain;
@@ -133,9 +136,9 @@ fn line(answer: Result<String, Refusal>, edits: &[u16], rules: &[u16]) -> String
     format!("{answer} digests {} {}\n", digest(edits), digest(rules))
 }
 
-/// 0 where all words are zero.
-pub fn digest(words: &[u16]) -> u64 {
-    words.iter().fold(0, |sum, &word| {
-        (sum * 65_599 + u64::from(word)) % 4_294_967_291
-    })
+/// One number for words or bytes: 0 where all are zero.
+pub fn digest<T: Copy + Into<u64>>(cells: &[T]) -> u64 {
+    cells
+        .iter()
+        .fold(0, |sum, &cell| (sum * 65_599 + cell.into()) % 4_294_967_291)
 }

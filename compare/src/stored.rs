@@ -2,6 +2,7 @@
 //! answers something else than their `stdout` says. On the implementation as it is that is nowhere;
 //! `altered` asks for the same of implementations with one wrong line.
 
+use crate::steps::writing::{text_line, write_lines};
 use crate::{plain, steps};
 use std::path::Path;
 use std::{fs, io};
@@ -21,19 +22,23 @@ pub fn all(crates: &Path) -> io::Result<Vec<Stored>> {
         compare(crates, "test_parse", parses)?,
         compare(crates, "test_pace", reports)?,
         compare(crates, "test_sweep", listings)?,
+        compare(crates, "test_write", writes)?,
+        compare(crates, "test_spelling", texts)?,
+        compare(crates, "write_grammar", |text| vec![file_of(text)])?,
+        compare(crates, "test_unmade", |text| vec![unmade(text)])?,
     ])
 }
 
 /// The answers to a program's `stdin`, each against its part of `stdout`.
-fn compare(
+fn compare<A: Answer>(
     crates: &Path,
     program: &'static str,
-    answers: fn(&[u8]) -> Vec<String>,
+    answers: fn(&[u8]) -> Vec<A>,
 ) -> io::Result<Stored> {
     let folder = crates.join(program);
     let answers = answers(&fs::read(folder.join("stdin"))?);
-    let expected = fs::read_to_string(folder.join("stdout"))?;
-    let expected = parts(&expected);
+    let expected = fs::read(folder.join("stdout"))?;
+    let expected = A::parts(&expected);
     assert_eq!(answers.len(), expected.len(), "answers of {program}");
     let different = answers.iter().zip(&expected).filter(|(a, e)| a != e);
     Ok(Stored {
@@ -43,21 +48,35 @@ fn compare(
     })
 }
 
-/// Cuts an output into the answers it is made of: a listing, or a single line.
-fn parts(output: &str) -> Vec<String> {
-    let mut parts = Vec::new();
-    let mut part = String::new();
-    for line in output.split_inclusive('\n') {
-        part.push_str(line);
-        // A listing goes on behind its first line and behind every edit line.
-        if !["ok ", "delete ", "insert "]
-            .iter()
-            .any(|goes_on| line.starts_with(goes_on))
-        {
-            parts.push(std::mem::take(&mut part));
+/// The answer to one call or input: lines, or the bytes of a file.
+trait Answer: PartialEq + Sized {
+    /// Cuts an output into the answers it is made of.
+    fn parts(output: &[u8]) -> Vec<Self>;
+}
+
+impl Answer for String {
+    /// A listing, the lines of a written file, or a single line.
+    fn parts(output: &[u8]) -> Vec<String> {
+        let output = std::str::from_utf8(output).expect("lines");
+        let mut parts: Vec<String> = Vec::new();
+        for line in output.split_inclusive('\n') {
+            let goes_on = ["delete ", "insert ", "pace ", "block "]
+                .iter()
+                .any(|word| line.starts_with(word));
+            match parts.last_mut() {
+                Some(part) if goes_on => part.push_str(line),
+                _ => parts.push(line.to_string()),
+            }
         }
+        parts
     }
-    parts
+}
+
+impl Answer for Vec<u8> {
+    /// All of it: the program makes one file.
+    fn parts(output: &[u8]) -> Vec<Vec<u8>> {
+        vec![output.to_vec()]
+    }
 }
 
 /// The steps of an input, N numbers of two bytes each.
@@ -158,14 +177,50 @@ fn reports(stdin: &[u8]) -> Vec<String> {
     answers
 }
 
+/// The answers of `test_write`.
+fn writes(stdin: &[u8]) -> Vec<String> {
+    let mut words = vec![0; steps::MOST_WORDS];
+    let mut answers = Vec::new();
+    for [kind, first, second] in steps_of(stdin) {
+        let first = usize::from(first);
+        match kind {
+            0 => words[first] = second,
+            _ => answers.push(write_lines(&words[..first], usize::from(second))),
+        }
+    }
+    answers
+}
+
 /// The listings of `test_sweep`.
 fn listings(stdin: &[u8]) -> Vec<String> {
-    let mut answers = Vec::new();
+    inputs_of(stdin).into_iter().map(plain::listing).collect()
+}
+
+/// The answers of `test_spelling`.
+fn texts(stdin: &[u8]) -> Vec<String> {
+    inputs_of(stdin).into_iter().map(text_line).collect()
+}
+
+/// Inputs or texts, each behind its length.
+fn inputs_of(stdin: &[u8]) -> Vec<&[u8]> {
+    let mut inputs = Vec::new();
     let mut rest = stdin;
     while let Some((size, behind)) = rest.split_first_chunk::<4>() {
         let (input, behind) = behind.split_at(u32::from_le_bytes(*size) as usize);
-        answers.push(plain::listing(input));
+        inputs.push(input);
         rest = behind;
     }
-    answers
+    inputs
+}
+
+/// The file that `write_grammar` makes of a text, nothing where it makes none.
+fn file_of(text: &[u8]) -> Vec<u8> {
+    plain::write_grammar(text).unwrap_or_default()
+}
+
+/// What `test_unmade` writes: what `write_grammar` does, and a line of its own.
+fn unmade(text: &[u8]) -> Vec<u8> {
+    let mut output = file_of(text);
+    output.extend(b"nothing else was printed\n");
+    output
 }

@@ -4,6 +4,8 @@
 //! reading is noticed.
 
 mod grammars;
+pub mod lists;
+pub mod texts;
 
 use crate::generate::families::bench_g;
 use crate::generate::file::standard_input;

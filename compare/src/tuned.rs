@@ -13,12 +13,14 @@ mod repair;
 mod shape;
 mod stack;
 mod tables;
+mod writer;
 
 pub use listing::listing;
 pub use pace::report;
 pub use parse::parse;
 pub use reader::read;
 pub use tables::Tables;
+pub use writer::write;
 
 use crate::answer::{Implementation, Parsed, Prints, Refusal, Report};
 use std::cell::RefCell;
@@ -36,6 +38,10 @@ impl Implementation for Tuned {
 
     fn read(&self, file: &[u8], words: &mut [u16]) -> Result<usize, Refusal> {
         read(file, words)
+    }
+
+    fn write(&self, words: &[u16], bytes: &mut [u8]) -> Result<usize, Refusal> {
+        write(words, bytes)
     }
 
     fn check(&self, words: &[u16]) -> Result<(), Refusal> {

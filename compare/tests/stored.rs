@@ -40,4 +40,10 @@ fn plain_and_tuned_agree_on_the_telling_inputs() {
     for input in telling::inputs() {
         assert_eq!(Plain.listing(&input), tuned.listing(&input));
     }
+    let lists = telling::lists::writes().into_iter();
+    for (words, room) in lists.chain(telling::lists::telling_sums()) {
+        let (mut one, mut two) = (vec![9; room], vec![9; room]);
+        assert_eq!(Plain.write(&words, &mut one), tuned.write(&words, &mut two));
+        assert_eq!(one, two);
+    }
 }

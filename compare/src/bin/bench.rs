@@ -5,7 +5,9 @@
 //! log. Before a log is measured, all implementations are held against each other on it:
 //! answers and every word of both buffers.
 
-use compare::answer::{Implementation, LISTING_EDITS, LISTING_RULES, LISTING_WORDS};
+use compare::answer::{
+    Implementation, LISTING_EDITS, LISTING_RULES, LISTING_WORDS, LONGEST_FILE, MOST_WORDS,
+};
 use compare::generate::log::{self, Sampler};
 use compare::generate::{families, file, grammar, Draft, Random};
 use compare::implementations::{self, PLAIN, TUNED};
@@ -41,6 +43,8 @@ fn main() {
     );
     bench.read_and_check("G", &g);
     bench.read_and_check("large", &large);
+    // Draws of its own, so that the logs below are those of other runs with the seed.
+    bench.write(&mut Random::new(!seed));
     bench.logs(&mut random, "G", &g);
     bench.logs(&mut random, "large", &large);
     bench.growth(&mut random, "G", &g);
@@ -75,6 +79,26 @@ impl Bench {
         self.row("check", &[words], (CALLS, 1.0), |column, words| {
             let _ = black_box(column.check(black_box(words)));
         });
+    }
+
+    /// Write of G's words and of as many as are written, into as many bytes as a file has at most.
+    fn write(&self, random: &mut Random) {
+        self.head(&format!("write into {LONGEST_FILE} bytes, ns a call"));
+        let any = (0..MOST_WORDS).map(|_| random.bits() as u16).collect();
+        for words in [families::bench_g().words(), any] {
+            let mut outcomes = self.columns.iter().map(|column| {
+                let mut bytes = vec![0xAA; LONGEST_FILE];
+                (column.write(&words, &mut bytes), bytes)
+            });
+            let first = outcomes.next().expect("a column");
+            assert!(outcomes.all(|other| other == first), "the columns differ");
+            let mut lent = vec![0xAA; LONGEST_FILE];
+            let name = format!("write {} words", words.len());
+            self.row(&name, &[words], (CALLS, 1.0), |column, words| {
+                let answer = column.write(black_box(words), &mut lent);
+                black_box(answer).expect("a list that is not refused");
+            });
+        }
     }
 
     /// Parse and pace on correct, damaged and noise logs of 4,096 tokens.

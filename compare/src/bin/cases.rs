@@ -1,17 +1,20 @@
-//! Runs the twelve bench examples of document 01 and its further claims on every
-//! implementation, against results written by hand. Exits with 1 where one differs.
+//! Runs the twelve bench examples of document 01, its further claims and the examples of request (i)
+//! on every implementation, against results written by hand. Exits with 1 where one differs.
 
-use compare::{examples, implementations};
+use compare::examples::{self, writing};
+use compare::implementations;
 use std::process::ExitCode;
 
 fn main() -> ExitCode {
     let mut good = true;
     for implementation in implementations::all() {
-        let failures = examples::failures(implementation.as_ref());
+        let mut failures = examples::failures(implementation.as_ref());
+        failures.extend(writing::failures(implementation.as_ref()));
         for failure in &failures {
             println!("{}: {failure}", implementation.name());
         }
-        let (name, count) = (implementation.name(), examples::all().len());
+        let count = examples::all().len() + writing::all().len();
+        let name = implementation.name();
         println!("{name}: {count} examples, {} differences", failures.len());
         good &= failures.is_empty();
     }

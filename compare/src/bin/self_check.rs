@@ -70,6 +70,7 @@ impl Tally {
             Input::Parse { .. } => 2,
             Input::Report { .. } => 3,
             Input::Listing { .. } => 4,
+            Input::Write { .. } => unreachable!("write_check has the lists"),
         };
         self.kinds[kind] += 1;
         match outcome.answer {

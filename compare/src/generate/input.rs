@@ -13,6 +13,10 @@ pub enum Input {
         file: Vec<u8>,
         words: Vec<u16>,
     },
+    Write {
+        words: Vec<u16>,
+        bytes: Vec<u8>,
+    },
     Check {
         words: Vec<u16>,
     },
@@ -54,12 +58,17 @@ impl Source {
         Source { seed, stock }
     }
 
+    pub(super) fn seed(&self) -> u64 {
+        self.seed
+    }
+
     /// The accepted grammars in stock.
     pub fn stock(&self) -> &[Draft] {
         &self.stock
     }
 
-    /// Input number `index`; it does not depend on the inputs before it.
+    /// Input number `index`; it does not depend on the inputs before it. Lists to be written are no
+    /// such inputs: [`Source::write`] has them, so that the others stay what they are.
     pub fn input(&self, index: u64) -> Input {
         let mut random = Random::at(self.seed, index);
         let random = &mut random;

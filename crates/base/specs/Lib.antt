@@ -1,3 +1,4 @@
 pub mod Choices
 pub mod Telling
 pub mod Clearing
+pub mod Written

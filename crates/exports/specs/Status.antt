@@ -9,6 +9,7 @@ use lib.Ieee.{Float, nan, fin}
 use lib.ListN.{take, replicate, set}
 use Rattle.grammar.specs.Refusals.{Outcome, given, refused, numberOf}
 use Rattle.grammar.specs.File.{FileRead}
+use Rattle.grammar.specs.Writing.{FileWritten}
 use Rattle.grammar.specs.Grammar.{Verdict}
 use Rattle.grammar.specs.Run.{Parsed}
 use Rattle.grammar.specs.Pace.{Reported}
@@ -44,12 +45,17 @@ pub record AnsweredAs {A : Type 0} (Answer : Outcome A → Type 0) (statusBy : A
   pub status-is : status ≡ statusOf statusBy outcome
   pub counts-are : counts ≡ counted countRoom (cellsOf countsBy outcome)
 
--- ---- Reading and parsing
+-- ---- Reading, writing and parsing
 
 -- A file is read: status 0, and the number of words.
 abbrev pub ReadAs : List ℕ → ℕ → ℕ → ℕ → List ℕ → List ℕ → Type 0
 ReadAs bytes room countRoom status words counts =
     AnsweredAs (λ (o : Outcome ℕ). FileRead bytes room o words) (λ n. 0) (λ n. n ∷ []) countRoom status counts
+
+-- A file is written: status 0, and the number of bytes.
+abbrev pub WrittenAs : List ℕ → ℕ → ℕ → ℕ → List ℕ → List ℕ → Type 0
+WrittenAs words room countRoom status bytes counts =
+    AnsweredAs (λ (o : Outcome ℕ). FileWritten words room o bytes) (λ n. 0) (λ n. n ∷ []) countRoom status counts
 
 -- The counts of a parse: moves, edit records, rule numbers.
 abbrev pub parseCounts : Counts → List ℕ

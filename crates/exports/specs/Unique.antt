@@ -7,6 +7,7 @@ use mathlib.Core.Option.{Option}
 use lib.Ieee.{Float}
 use Rattle.grammar.specs.Refusals.{Outcome}
 use Rattle.grammar.specs.declared.Refusal.{Refusal}
+use Rattle.grammar.specs.theory.Requests.{file-written-unique}
 use Rattle.grammar.specs.theory.Sentences.{verdict-unique, file-read-unique, parsed-unique, reported-unique}
 use Rattle.exports.specs.Status.{
   AnsweredAs,
@@ -14,6 +15,7 @@ use Rattle.exports.specs.Status.{
   PacedAs,
   ParsedAs,
   ReadAs,
+  WrittenAs,
   cellsOf,
   counted,
   fitted,
@@ -36,6 +38,13 @@ pub read-as-unique : {bytes : List ℕ} {room countRoom s t : ℕ} {w x n m : Li
     → ReadAs bytes room countRoom t x m → (s ≡ t) × (w ≡ x) × (n ≡ m)
 read-as-unique p q =
     let same = file-read-unique (p .answer) (q .answer) in
+    let told = answered-unique p q (same .0) in
+    (told .0, same .1, told .1)
+
+pub written-as-unique : {words : List ℕ} {room countRoom s t : ℕ} {b c n m : List ℕ} → WrittenAs words room countRoom s b n
+    → WrittenAs words room countRoom t c m → (s ≡ t) × (b ≡ c) × (n ≡ m)
+written-as-unique p q =
+    let same = file-written-unique (p .answer) (q .answer) in
     let told = answered-unique p q (same .0) in
     (told .0, same .1, told .1)
 

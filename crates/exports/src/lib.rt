@@ -1,14 +1,15 @@
-// The functions of the static library: reading, checking, parsing and pacing for callers that know numbers and slices alone.
+// The functions of the static library: reading, writing, checking, parsing and pacing for callers that know numbers and slices alone.
 // None asks for anything beforehand. `include/odhrashup.h` declares them.
 ghost use mathlib.Core.Path.{_≡_};
 ghost use lib.ListN.{length, replicate, set};
-ghost use Rattle.exports.specs.Status.{CheckedAs, PacedAs, ParsedAs, Put, ReadAs, plusZero};
+ghost use Rattle.exports.specs.Status.{CheckedAs, PacedAs, ParsedAs, Put, ReadAs, WrittenAs, plusZero};
 use file::Reading;
 use grammar::Pace;
 use grammar::Report;
 use pace::Paced;
 use parser::Parsing;
 use verdict::Checked;
+use writer::Writing;
 
 // The status of a report without a clean cycle.
 const IDLE: u32 = 1000;
@@ -27,6 +28,23 @@ pub extern "C" fn odhrashup_read(bytes: &[u8], words: &mut [u16], counts: &mut [
             0
         }
         Reading::Refused(refusal) => grammar::number_of(refusal),
+    }
+}
+
+// Writes a grammar file. The status is 0, 13 or 14; counts[0] is the number of bytes.
+#[no_mangle]
+pub extern "C" fn odhrashup_write(words: &[u16], bytes: &mut [u8], counts: &mut [u64]) -> u32
+    ensures { λ r. ⌜ WrittenAs (now (words .entry)) (length (now (bytes .entry))) (length (now (counts .entry))) r
+        (now (bytes .exit)) (now (counts .exit)) ⌝ }
+{
+    base::clear_numbers(counts);
+    let writing = writer::write(words, bytes);
+    match writing {
+        Writing::Bytes(size) => {
+            put(counts, 0, size as u64);
+            0
+        }
+        Writing::Refused(refusal) => grammar::number_of(refusal),
     }
 }
 

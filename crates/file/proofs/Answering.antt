@@ -5,14 +5,14 @@ use mathlib.Core.Path.{_≡_, sym, ap, subst, subst₂, _∙_}
 use mathlib.Core.List.{List, [], _∷_}
 use mathlib.Core.Option.{Option, some}
 use lib.ListN.{length, length-replicate}
-use Rattle.grammar.specs.Buffers.{cleared}
+use Rattle.grammar.specs.Buffers.{cleared, Fills}
 use Rattle.grammar.specs.Refusals.{_unless_, Lowest, given, refused}
-use Rattle.grammar.specs.File.{FileSize, EachBlock, BlockFields, fileConditions, fileWords, FileRead, refuse}
-use Rattle.grammar.specs.File.FileRead.{read}
+use Rattle.grammar.specs.File.{FileSize, EachBlock, BlockFields, fileConditions, fileWords, FileRead}
 use Rattle.grammar.specs.declared.Refusal.{Refusal}
 use Rattle.grammar.specs.declared.Refusal.the-variants.{BadSize, BadCheck, BadBlock, ShortWords}
 use Rattle.grammar.specs.theory.Conditions.{all-met, applies, passes}
-use Rattle.file.specs.Answer.{CheckRight, FileRight, begun}
+use Rattle.base.specs.Written.{begun}
+use Rattle.grammar.specs.theory.Files.{CheckRight, FileRight}
 use Rattle.file.proofs.Filling.{begun-filled}
 
 module _ (bytes : List ℕ) (room : ℕ) where
@@ -23,7 +23,7 @@ module _ (bytes : List ℕ) (room : ℕ) where
   -- A refusal leaves a cleared buffer.
   refuses : {r : Refusal} {buffer : List ℕ} → Lowest (fileConditions bytes room) (some r) → buffer ≡ cleared room
       → FileRead bytes room (refused r) buffer
-  refuses {r} lowest clear = subst (FileRead bytes room (refused r)) (sym clear) (refuse lowest)
+  refuses {r} lowest clear = subst (FileRead bytes room (refused r)) (sym clear) (record { read = Fills.refuse lowest })
 
   pub refuses-size : {buffer : List ℕ} → (FileSize (length bytes) → ⊥) → buffer ≡ cleared room
       → FileRead bytes room (refused BadSize) buffer
@@ -54,4 +54,4 @@ module _ (bytes : List ℕ) (room : ℕ) where
       let enough : length words ≤ room = omega (arith, room-of clear) in
       let holds = copied ∙ (ap (λ (old : List ℕ). begun old words) clear ∙ begun-filled room words) in
       subst₂ (λ (m : ℕ) (b : List ℕ). FileRead bytes room (given m) b) (sym count) (sym holds)
-      (read (right-passes right (passes enough all-met)))
+      (record { read = Fills.fill (right-passes right (passes enough all-met)) })

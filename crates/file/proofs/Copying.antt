@@ -5,9 +5,8 @@ use mathlib.Core.Path.{_≡_, refl, sym, ap, _∙_}
 use mathlib.Core.List.{List, [], _∷_, _++_}
 use lib.ListN.{length, set, length-set}
 use Rattle.grammar.specs.File.{pairAt, wordsUsed, wordsFrom, wordsOfBlocks}
-use Rattle.file.specs.Answer.{blockWords, written, begun}
-use Rattle.file.specs.Files.{words-length, words-more, words-none, blocks-more, blocks-none, blocks-length}
-use Rattle.file.proofs.Filling.{written-none, written-more, begun-none, begun-more}
+use Rattle.base.specs.Written.{written, written-none, written-more, begun, begun-none, begun-more}
+use Rattle.grammar.specs.theory.Files.{blockWords, words-length, words-more, words-none, blocks-more, blocks-none, blocks-length}
 
 -- The first i words from byte `start` on stand in the buffer, from the place `at` on.
 pub record BlockCopied (bytes old words : List ℕ) (start at i : ℕ) : Type 0 where

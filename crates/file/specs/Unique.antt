@@ -4,7 +4,7 @@ use Prim.Native.Nat.{ℕ}
 use mathlib.Core.Path.{_≡_}
 use mathlib.Core.List.{List}
 use Rattle.grammar.specs.File.{FileRead}
-use Rattle.grammar.specs.theory.Determined.{file-read-unique}
+use Rattle.grammar.specs.theory.Sentences.{file-read-unique}
 use Rattle.file.specs.Answer.{readingOf}
 use Rattle.file.specs.declared.Reading.{Reading}
 use Rattle.file.specs.declared.Reading.the-variants.{Words, Refused}

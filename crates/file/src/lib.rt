@@ -12,17 +12,16 @@ ghost use Rattle.grammar.specs.File.{
   blockCount,
   fileWords,
   pairAt,
-  weightedSum,
   wordsUsed,
 };
-ghost use Rattle.file.specs.Answer.{
-  CheckRight,
-  UnusedZero,
-  begun,
-  blockWords,
-  readingOf,
-  written,
-};
+ghost use Rattle.base.specs.Written.{begun, written};
+ghost use Rattle.grammar.specs.theory.Files.{CheckRight, blockWords};
+ghost use Rattle.file.specs.Answer.{UnusedZero, readingOf};
+use block::BLOCK_BYTES;
+use block::BLOCK_WORDS;
+use block::CHECK;
+use block::FIRST_WORD;
+use block::USE_COUNT;
 use grammar::Refusal;
 
 // The answer: the number of words read, or a refusal. `readingOf` of specs/Answer.antt says what each stands for.
@@ -30,22 +29,6 @@ pub enum Reading {
     Words(usize),
     Refused(Refusal),
 }
-
-// Document 01, "The grammar file". A block's number stands in its first two bytes.
-const BLOCK_BYTES: usize = 512;
-
-// Where a block's use count stands.
-const USE_COUNT: usize = 2;
-
-// Where a block's words begin, and how many it has.
-const FIRST_WORD: usize = 4;
-
-const BLOCK_WORDS: usize = 253;
-
-// Where a block's check stands: it is of all bytes before it.
-const CHECK: usize = 510;
-
-const MODULUS: u32 = 65521;
 
 // Eleven blocks.
 const LARGEST_FILE: usize = 5632;
@@ -105,37 +88,13 @@ fn checks_right(bytes: &[u8]) -> bool
     true
 }
 
-// The check of block k: the sum modulo 65,521 stands in the block's last two bytes.
+// The check of block k stands in its last two bytes.
 fn check_right(bytes: &[u8], k: usize) -> bool
     requires { ⌜ k < blockCount (now bytes) ⌝ }
     ensures { λ r. ⌜ Tells (CheckRight (now (bytes .entry)) k) r ⌝ }
 {
     let start = BLOCK_BYTES * k;
-    let sum = weighted_sum(bytes, start) % MODULUS;
-    pair(bytes, start + CHECK) as u32 == sum
-}
-
-// The sum over the first 510 bytes of a block. It is at most 510 * 510 * 255, so a u32 holds it before the modulus.
-fn weighted_sum(bytes: &[u8], start: usize) -> u32
-    requires { ⌜ start + 510 ≤ length (now bytes) ⌝ }
-    ensures { λ r. ⌜ r ≡ weightedSum (now (bytes .entry)) start 510 ⌝ }
-{
-    let mut sum: u32 = 0;
-    let mut i = 0;
-    while i < CHECK {
-        sum += weighted(i, bytes[start + i]);
-        i += 1;
-    }
-    sum
-}
-
-// (i + 1) x byte i.
-fn weighted(i: usize, byte: u8) -> u32
-    requires { ⌜ i < 510 ⌝ }
-    ensures { λ r. ⌜ r ≡ (i + 1) * byte ⌝ }
-    ensures { λ r. ⌜ r ≤ 130050 ⌝ }
-{
-    (i as u32 + 1) * (byte as u32)
+    pair(bytes, start + CHECK) == block::check_of(bytes, start, CHECK)
 }
 
 // ---- Refusal 3

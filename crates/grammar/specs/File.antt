@@ -3,11 +3,9 @@
 use Prim.Native.Nat.{ℕ, zero, suc, _+_, _*_, _/_, _%_, _≤_, _<_}
 use mathlib.Core.Path.{_≡_}
 use mathlib.Core.List.{List, [], _∷_, _++_}
-use mathlib.Core.Option.{none, some}
 use lib.ListN.{length, getD}
-use Rattle.grammar.specs.Buffers.{filled, cleared}
-use Rattle.grammar.specs.Refusals.{Condition, _unless_, Lowest, Outcome, given, refused}
-use Rattle.grammar.specs.declared.Refusal.{Refusal}
+use Rattle.grammar.specs.Buffers.{Fills}
+use Rattle.grammar.specs.Refusals.{Condition, _unless_, Outcome}
 use Rattle.grammar.specs.declared.Refusal.the-variants.{BadSize, BadCheck, BadBlock, ShortWords}
 
 -- The little endian number of two bytes.
@@ -89,7 +87,5 @@ fileConditions bytes room =
 
 -- "Reading yields the words in order and their number; words of the buffer behind them become zero." The reader's
 -- answer, a number of words or a refusal, and the buffer afterwards.
-pub data FileRead (bytes : List ℕ) (room : ℕ) : Outcome ℕ → List ℕ → Type 0 where
-  read : Lowest (fileConditions bytes room) none
-      → FileRead bytes room (given (length (fileWords bytes))) (filled room (fileWords bytes))
-  refuse : {r : Refusal} → Lowest (fileConditions bytes room) (some r) → FileRead bytes room (refused r) (cleared room)
+pub record FileRead (bytes : List ℕ) (room : ℕ) (answer : Outcome ℕ) (buffer : List ℕ) : Type 0 where
+  pub read : Fills (fileConditions bytes room) room (fileWords bytes) answer buffer

@@ -1,10 +1,11 @@
--- What document 01 means, in its order: definitions only. Read them in this order, next to the document.
+-- What documents 01 and 02 mean, in the order of document 01: definitions only. Read them in this order, next to the documents.
 pub mod Words
 pub mod Derivation
 pub mod Cost
 pub mod Grammar
 pub mod Buffers
 pub mod File
+pub mod Writing
 pub mod Moves
 pub mod Run
 pub mod Pace

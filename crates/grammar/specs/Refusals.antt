@@ -19,9 +19,11 @@ use Rattle.grammar.specs.declared.Refusal.the-variants.{
   BadLog,
   StackFull,
   NoRoom,
+  BadCount,
+  ShortBytes,
 }
 
--- The number of each refusal.
+-- The number of each refusal: 1 to 12 are document 01's, the others document 02's.
 abbrev pub numberOf : Refusal → ℕ
 numberOf BadSize = 1
 numberOf BadCheck = 2
@@ -35,6 +37,8 @@ numberOf SharedPredict = 9
 numberOf BadLog = 10
 numberOf StackFull = 11
 numberOf NoRoom = 12
+numberOf BadCount = 13
+numberOf ShortBytes = 14
 
 -- What an answer is: values, or a refusal, which "returns its number only".
 pub data Outcome (A : Type 0) : Type 0 where

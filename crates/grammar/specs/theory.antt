@@ -1,10 +1,16 @@
--- What follows from the definitions, for every grammar and every log. Open Demands first, then Sentences; the rest stands in the order in
--- which it is proved.
+-- What follows from the definitions, for every grammar and every log. Open Demands first, then Sentences and Requests; the rest stands in
+-- the order in which it is proved.
 pub mod Demands
 pub mod Sentences
+pub mod Requests
 pub mod Conditions
 pub mod Outcomes
 pub mod Due
+pub mod Fills
+pub mod Files
+pub mod OnlyFile
+pub mod Blocks
+pub mod ReadBack
 pub mod Pigeonhole
 pub mod Leftmost
 pub mod Masks

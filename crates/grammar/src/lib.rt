@@ -1,8 +1,8 @@
-// The answers that document 01 names. What they mean stands in specs/, in document 01's order and words.
+// The answers that documents 01 and 02 name. What they mean stands in specs/, in the documents' order and words.
 ghost use mathlib.Core.Path.{_≡_};
 ghost use Rattle.grammar.specs.Refusals.{numberOf};
 
-// Document 01, "Refusal numbers". `numberOf` of specs/Refusals.antt and `number_of` give each its number.
+// Document 01, "Refusal numbers", and the refusals of document 02. `numberOf` of specs/Refusals.antt and `number_of` give each its number.
 pub enum Refusal {
     // 1: the file is empty, not a multiple of 512, or over 5,632 bytes.
     BadSize,
@@ -28,6 +28,10 @@ pub enum Refusal {
     StackFull,
     // 12: the next rule number or edit record does not fit.
     NoRoom,
+    // 13: there are no words to write, or more than 2,783.
+    BadCount,
+    // 14: the byte buffer is shorter than the file.
+    ShortBytes,
 }
 
 // The number of a refusal.
@@ -47,6 +51,8 @@ pub fn number_of(refusal: Refusal) -> u32
         Refusal::BadLog => 10,
         Refusal::StackFull => 11,
         Refusal::NoRoom => 12,
+        Refusal::BadCount => 13,
+        Refusal::ShortBytes => 14,
     }
 }
 

@@ -11,9 +11,9 @@ use Rattle.listing.specs.declared.input.Blocks.{Blocks}
 use Rattle.listing.specs.declared.input.Blocks.the-variants.{EndAt, Refused}
 
 -- What each answer stands for: where the blocks end, or the refusal.
-abbrev pub blocksOf : Blocks → Outcome ℕ
-blocksOf (EndAt n) = given n
-blocksOf (Refused r) = refused r
+abbrev pub endOf : Blocks → Outcome ℕ
+endOf (EndAt n) = given n
+endOf (Refused r) = refused r
 
 -- Where an input's blocks end, or refusal 1.
 pub data InputCounted (input : List ℕ) : Outcome ℕ → Type 0 where

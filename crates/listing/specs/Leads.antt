@@ -14,7 +14,7 @@ use Rattle.grammar.specs.Run.{countsOf, left}
 use Rattle.grammar.specs.Pace.{Reports, Reported}
 use Rattle.grammar.specs.Refusals.{Outcome, given, refused, numberOf}
 use Rattle.grammar.specs.theory.Folds.{edit-words-length}
-use Rattle.grammar.specs.theory.Outcomes.{given-refused, given-same}
+use Rattle.grammar.specs.theory.Fills.{fills-content}
 use Rattle.grammar.specs.Listing.{
   Counted,
   Printed,
@@ -74,10 +74,9 @@ unfolding filled
 filled-within room ws = simp length-append (omega arith)
 
 pub read-part : {bytes words : List ℕ} {room n : ℕ} {o : Outcome ℕ} → FileRead bytes room o words → o ≡ given n → n ≤ length words
-read-part {bytes} {room = room} {n = n} (FileRead.read l) e =
-    let count : length (fileWords bytes) ≡ n = given-same e in
-    omega (arith, filled-within room (fileWords bytes))
-read-part (FileRead.refuse l) e = absurd (given-refused e refl)
+read-part {bytes} {room = room} p e =
+    let content = fills-content (p .read) e in
+    omega (arith, content .count, ap length (content .holds), filled-within room (fileWords bytes))
 
 pub reported-part : {ws log ticks x u : List ℕ} {editRoom ruleRoom : ℕ} {report : Report} {counts : Counts}
     → Reported ws log ticks editRoom ruleRoom (given (report, counts)) x u → 3 * counts .records ≤ length x

@@ -17,7 +17,7 @@ use Rattle.grammar.specs.declared.Counts.{Counts}
 use Rattle.grammar.specs.declared.Report.{Report}
 use Rattle.listing.specs.declared.input.Blocks.{Blocks}
 use Rattle.listing.specs.declared.input.Blocks.the-variants.{EndAt, Refused}
-use Rattle.listing.specs.Answer.{Appends, InputCounted, Wrote, blocksOf}
+use Rattle.listing.specs.Answer.{Appends, InputCounted, Wrote, endOf}
 use Rattle.grammar.specs.theory.Answers.{parses-unique}
 use Rattle.grammar.specs.theory.Sentences.{file-read-unique, reported-unique}
 
@@ -74,7 +74,7 @@ printed-unique {input} (Printed.listed c f p e) (Printed.listed d g q h) =
 -- ---- The functions
 
 -- Where the blocks end.
-pub blocks-unique : {input : List ℕ} (a b : Blocks) → InputCounted input (blocksOf a) → InputCounted input (blocksOf b) → a ≡ b
+pub blocks-unique : {input : List ℕ} (a b : Blocks) → InputCounted input (endOf a) → InputCounted input (endOf b) → a ≡ b
 blocks-unique (EndAt n) (EndAt m) p q = ap EndAt (given-same (counted-unique p q))
 blocks-unique (EndAt n) (Refused r) p q = absurd (given-refused refl (counted-unique p q))
 blocks-unique (Refused r) (EndAt m) p q = absurd (given-refused refl (counted-unique q p))

@@ -4,10 +4,10 @@ ghost use Prim.Native.Nat.{_+_, _-_, _*_, _/_, _^_, _≤_, _<_, min};
 ghost use lib.ListN.{getD};
 ghost use Rattle.grammar.specs.File.{pairAt};
 ghost use Rattle.grammar.specs.Listing.{fileOf, quadAt, ticksFrom, tokensFrom};
-ghost use Rattle.listing.specs.Answer.{InputCounted, Wrote, blocksOf};
+ghost use Rattle.listing.specs.Answer.{InputCounted, Wrote, endOf};
 use grammar::Refusal;
 
-// Where the blocks end and the entries begin, or refusal 1. `blocksOf` of specs/Answer.antt says what each stands for.
+// Where the blocks end and the entries begin, or refusal 1. `endOf` of specs/Answer.antt says what each stands for.
 pub enum Blocks {
     EndAt(usize),
     Refused(Refusal),
@@ -27,7 +27,7 @@ const TOKEN_BYTES: usize = 2;
 
 // Where the blocks end; or refusal 1, for a bad count, a count cut short, no input or missing blocks.
 pub fn blocks_of(input: &[u8]) -> Blocks
-    ensures { λ r. ⌜ InputCounted (now (input .entry)) (blocksOf r) ⌝ }
+    ensures { λ r. ⌜ InputCounted (now (input .entry)) (endOf r) ⌝ }
 {
     if input.len() < COUNT_BYTES {
         return Blocks::Refused(Refusal::BadSize);

@@ -1,16 +1,9 @@
 // The printing program but for its name: document 01, "The printed listing". It reads standard input to its end, keeps the bytes that
 // decide the listing, and writes the listing. A read that fails is never taken for the end: nothing is printed then.
 ghost use Prim.Native.Nat.{_≤_};
-ghost use mathlib.Core.Path.{_≡_};
 ghost use lib.ListN.{length};
-ghost use Rattle.printing.specs.Input.{InputFits, PartFits, partOf};
-
-// What a read came to. `partOf` of specs/Input.antt says which is which.
-pub enum Part {
-    Bytes(usize),
-    End,
-    Failed,
-}
+ghost use Rattle.printing.specs.Input.{InputFits};
+use input::Part;
 
 // What is known of standard input behind its last read: how many of its bytes are kept, or that a read failed.
 pub enum Input {
@@ -25,7 +18,7 @@ pub fn run() {
     let input = read_input(&mut room);
     match input {
         Input::Kept(size) => print(&room, size),
-        Input::Failed => tell(b"odhrashup: standard input could not be read\n"),
+        Input::Failed => input::tell(b"odhrashup: standard input could not be read\n"),
     }
 }
 
@@ -39,12 +32,7 @@ fn print(room: &[u8], size: usize)
     if io::write_all(1, &out[..count]) {
         return;
     }
-    tell(b"odhrashup: the listing could not be written\n");
-}
-
-// Writes a line to standard error. Where that fails too, nothing is left to be done.
-fn tell(line: &[u8]) {
-    io::write_all(2, line);
+    input::tell(b"odhrashup: the listing could not be written\n");
 }
 
 // Reads standard input to its end and keeps as much of it as the room holds. A proved loop has to end, and nothing says that the
@@ -57,7 +45,7 @@ fn read_input(room: &mut [u8]) -> Input
     let mut size = 0;
     let mut turns: u64 = 18446744073709551615;
     while turns > 0 {
-        let part = read_part(chunk);
+        let part = input::read_part(chunk);
         match part {
             Part::Bytes(count) => {
                 size = listing::keep(room, size, &chunk[..count]);
@@ -72,25 +60,4 @@ fn read_input(room: &mut [u8]) -> Input
         turns -= 1;
     }
     Input::Failed
-}
-
-// Reads a part of standard input to the front of the space.
-fn read_part(space: &mut [u8]) -> Part
-    ensures { λ r. ⌜ PartFits (now (space .exit)) r ⌝ }
-{
-    let got = libc::read(0, space);
-    part_of(got, space)
-}
-
-// What a read came to that answered `got`.
-fn part_of(got: isize, space: &[u8]) -> Part
-    ensures { λ r. ⌜ r ≡ partOf got (length (now (space .entry))) ⌝ }
-{
-    if got < 0 {
-        return Part::Failed;
-    }
-    if got == 0 {
-        return Part::End;
-    }
-    Part::Bytes(io::count(got, space))
 }

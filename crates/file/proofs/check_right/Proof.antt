@@ -1,6 +1,5 @@
--- `file::check_right` meets its contract: the comparison is that of the stored check with the block's sum.
-use Prim.Native.Nat.{ℕ, _%_}
-use mathlib.Core.Path.{sym, ap, _∙_}
+-- `file::check_right` meets its contract: the comparison is that of the stored check with the block's.
+use mathlib.Core.Path.{sym, _∙_}
 use borrow.Author.Needs.{needs}
 use Rattle.base.specs.Telling.{tells-eq}
 use Rattle.file.proofs.check_right.Statement.{statement}
@@ -9,23 +8,20 @@ use Rattle.file.proofs.check_right.Tie as tie
 mul-start : tie.Need-mul-start
 mul-start c = search needs
 
-weighted-sum-requires : tie.Need-weighted-sum-requires
-weighted-sum-requires c κs = search needs
-
 add-pair : tie.Need-add-pair
 add-pair c = search needs
 
 pair-requires : tie.Need-pair-requires
 pair-requires c κs = search needs
 
-cast-result : tie.Need-cast-result
-cast-result c = search needs
+check-of-requires : tie.Need-check-of-requires
+check-of-requires c κs = search needs
 
 returns : tie.Need-returns
 returns c =
-    let sum = ap (λ (s : ℕ). s % 65521) (c .before .weighted-sum .ensures) in
-    tells-eq _ _ (λ same. sym (c .pair .ensures) ∙ (same ∙ sum)) (λ right. c .pair .ensures ∙ (right ∙ sym sum))
+    let stored = c .before .pair .ensures in
+    let check = c .check-of .ensures in
+    tells-eq _ _ (λ same. sym stored ∙ (same ∙ check)) (λ right. stored ∙ (right ∙ sym check))
 
 pub check-right-spec : {M : Type 1} → statement M
-check-right-spec =
-    tie.close (tie.spec mul-start weighted-sum-requires add-pair pair-requires cast-result returns)
+check-right-spec = tie.close (tie.spec mul-start add-pair pair-requires check-of-requires returns)

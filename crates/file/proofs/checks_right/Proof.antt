@@ -3,7 +3,7 @@ use Prim.Native.Nat.{ℕ, _-_, _≤_, _<_}
 use native.Mathlib.Omega.{arith}
 use borrow.Author.Needs.{needs}
 use borrow.Author.Count.{below-more}
-use Rattle.file.specs.Answer.{CheckRight}
+use Rattle.grammar.specs.theory.Files.{CheckRight}
 use Rattle.base.specs.Telling.{told, denied}
 use Rattle.file.proofs.checks_right.Statement.{statement}
 use Rattle.file.proofs.checks_right.Tie as tie

@@ -3,7 +3,7 @@
 use Prim.Native.Nat.{_-_, _≤_}
 use native.Mathlib.Omega.{arith}
 use borrow.Author.Needs.{needs}
-use Rattle.file.specs.Files.{use-most, block-fits}
+use Rattle.grammar.specs.theory.Files.{use-most, block-fits}
 use Rattle.file.proofs.Copying.{blocks-end, BlocksCopied, blocks-begin, blocks-go}
 use Rattle.file.proofs.copy_blocks.Statement.{statement}
 use Rattle.file.proofs.copy_blocks.Tie as tie

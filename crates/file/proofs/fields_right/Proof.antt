@@ -2,7 +2,7 @@
 use native.Mathlib.Omega.{arith}
 use mathlib.Core.Path.{sym, _∙_}
 use borrow.Author.Needs.{needs}
-use Rattle.file.specs.Files.{use-same}
+use Rattle.grammar.specs.theory.Files.{use-same}
 use Rattle.base.specs.Telling.{denied, tells-as}
 use Rattle.file.proofs.fields_right.Statement.{statement}
 use Rattle.file.proofs.fields_right.Tie as tie

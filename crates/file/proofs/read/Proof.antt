@@ -6,9 +6,9 @@ use mathlib.Core.List.{List}
 use lib.ListN.{length}
 use borrow.Author.Needs.{needs}
 use Rattle.grammar.specs.File.{FileSize, EachBlock}
-use Rattle.file.specs.Answer.{FileRight, CheckRight}
+use Rattle.grammar.specs.theory.Files.{FileRight, CheckRight}
 use Rattle.file.proofs.Answering.{refuses-size, refuses-check, refuses-block, refuses-room, reads-words}
-use Rattle.file.proofs.Filling.{made-clear}
+use Rattle.grammar.specs.theory.Fills.{made-clear}
 use Rattle.file.proofs.read.Statement.{statement}
 use Rattle.file.proofs.read.Tie as tie
 

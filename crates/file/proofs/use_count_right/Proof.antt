@@ -2,7 +2,7 @@
 use native.Mathlib.Omega.{arith}
 use borrow.Author.Needs.{needs}
 use Rattle.grammar.specs.File.{full, last}
-use Rattle.file.specs.Files.{use-full, use-some, use-most}
+use Rattle.grammar.specs.theory.Files.{use-full, use-some, use-most}
 use Rattle.base.specs.Telling.{denied, tells-le, tells-eq}
 use Rattle.file.proofs.use_count_right.Statement.{statement}
 use Rattle.file.proofs.use_count_right.Tie as tie

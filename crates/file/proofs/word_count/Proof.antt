@@ -4,7 +4,7 @@ use native.Mathlib.Omega.{arith}
 use mathlib.Core.List.{List}
 use lib.ListN.{length}
 use borrow.Author.Needs.{needs}
-use Rattle.file.specs.Files.{file-length, use-most}
+use Rattle.grammar.specs.theory.Files.{file-length, use-most}
 use Rattle.file.proofs.word_count.Statement.{statement}
 use Rattle.file.proofs.word_count.Tie as tie
 

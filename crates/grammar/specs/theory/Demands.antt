@@ -32,6 +32,7 @@ use Rattle.grammar.specs.theory.Chosen as Chosen
 use Rattle.grammar.specs.theory.Answers as Answers
 use Rattle.grammar.specs.theory.Conditions.{Held}
 use Rattle.grammar.specs.theory.Due.{Due, InOrder, lowest-held}
+use Rattle.grammar.specs.theory.Fills.{fills-exactly, fills-zeros, fills-content}
 use Rattle.grammar.specs.theory.Refused as Refused
 use Rattle.grammar.specs.theory.Refused.{Given}
 use Rattle.grammar.specs.theory.Told.{told, idle-no-cycle, no-cycle-idle, idle-no-time}
@@ -64,11 +65,11 @@ pub record Answered {A : Type 0} (answer : Outcome A) (Refuses : Refusal → Typ
 pub reader-answers : {bytes : List ℕ} {room : ℕ} {a : Outcome ℕ} {x : List ℕ} → FileRead bytes room a x
     → Answered a (Due (fileConditions bytes room)) (x ≡ cleared room)
     (λ n. (n ≡ length (fileWords bytes)) × (x ≡ filled room (fileWords bytes)))
-reader-answers p =
+reader-answers {bytes} {room} p =
     record {
-      exactly = Refused.reader-exactly p;
-      zeros = λ r e. Refused.reader-zeros p e;
-      holds = λ n e. Refused.reader-words p e;
+      exactly = fills-exactly (Refused.file-in-order bytes room) (p .read);
+      zeros = λ r e. fills-zeros (p .read) e;
+      holds = λ n e. let content = fills-content (p .read) e in (content .count, content .holds);
     }
 
 -- The check: a refusal that is due. It has no buffer.

@@ -1,5 +1,5 @@
--- The run is determined: two runs of one state have equal moves and equal outcome. So is the reader's answer. The parser's and
--- the report's are in Answers.antt.
+-- The run is determined: two runs of one state have equal moves and equal outcome. The parser's and the report's answers are in
+-- Answers.antt, those of functions that fill one buffer in Fills.antt.
 use Prim.Native.Nat.{ℕ}
 use mathlib.Core.Path.{_≡_, refl, sym, ap, _∙_, subst}
 use mathlib.Core.List.{List}
@@ -7,10 +7,8 @@ use mathlib.Core.Option.{Option, none, some}
 use Rattle.grammar.specs.Grammar.{Grammar}
 use Rattle.grammar.specs.Moves.{Move}
 use Rattle.grammar.specs.Run.{State, Limits, Run, next, limit}
-use Rattle.grammar.specs.Refusals.{Outcome}
-use Rattle.grammar.specs.File.{FileRead}
 use Rattle.grammar.specs.declared.Refusal.{Refusal}
-use Rattle.grammar.specs.theory.Conditions.{some-none, lowest-unique}
+use Rattle.grammar.specs.theory.Conditions.{some-none}
 use Rattle.grammar.specs.theory.Good.{Good}
 use Rattle.grammar.specs.theory.States.{Live, choice-some, live-next, one-choice}
 
@@ -41,11 +39,3 @@ module _ (G : Grammar) (N R : ℕ) (good : Good G N R) (L : Limits) where
   run-determined {s = s} (Run.stopped {x = x} c l) (Run.stopped {x = y} d m) v =
       let e : x ≡ y = one-choice G N R good v c d in
       record { moves = refl; outcome = sym l ∙ ap (λ z. limit L s z) e ∙ m }
-
--- The reader's answer and buffer are one.
-pub file-read-unique : {bytes : List ℕ} {room : ℕ} {a b : Outcome ℕ} {x y : List ℕ} → FileRead bytes room a x
-    → FileRead bytes room b y → (a ≡ b) × (x ≡ y)
-file-read-unique (FileRead.read l) (FileRead.read k) = (refl, refl)
-file-read-unique (FileRead.read l) (FileRead.refuse k) = absurd (some-none refl (lowest-unique l k))
-file-read-unique (FileRead.refuse l) (FileRead.read k) = absurd (some-none refl (lowest-unique k l))
-file-read-unique (FileRead.refuse l) (FileRead.refuse k) = let e = lowest-unique l k in (cc, refl)

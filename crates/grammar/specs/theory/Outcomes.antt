@@ -17,6 +17,8 @@ use Rattle.grammar.specs.declared.Refusal.the-variants.{
   BadLog,
   StackFull,
   NoRoom,
+  BadCount,
+  ShortBytes,
 }
 
 pub given-refused : {A : Type 0} {o : Outcome A} {a : A} {r : Refusal} → o ≡ given a → o ≡ refused r → ⊥
@@ -42,3 +44,5 @@ number-small SharedPredict = omega arith
 number-small BadLog = omega arith
 number-small StackFull = omega arith
 number-small NoRoom = omega arith
+number-small BadCount = omega arith
+number-small ShortBytes = omega arith

@@ -1,16 +1,16 @@
--- Demand 1 of the reader, the check, the parser and the report: when each refusal is given, and what the buffers hold. `Demands` states
--- it first.
+-- Demand 1 of the check, the parser and the report: when each refusal is given, and what the buffers hold. `Demands` states it first. Of
+-- the reader and the writer, which fill one buffer, Fills.antt has it.
 use Prim.Native.Nat.{ℕ, _<_}
 use mathlib.Core.Path.{_≡_, refl, sym, ap, subst, _∙_}
 use mathlib.Core.List.{List}
 use mathlib.Core.Logic.{_↔_, inl, inr}
 use mathlib.Core.Option.{Option, some}
 use native.Mathlib.Omega.{arith}
-use lib.ListN.{length}
 use Rattle.grammar.specs.Buffers.{filled, cleared}
 use Rattle.grammar.specs.Moves.{Move, edits, editWords, ruleNumbers}
 use Rattle.grammar.specs.Refusals.{Condition, Lowest, numberOf, Outcome, given, refused}
-use Rattle.grammar.specs.File.{fileConditions, fileWords, FileRead}
+use Rattle.grammar.specs.File.{fileConditions}
+use Rattle.grammar.specs.Writing.{writeConditions}
 use Rattle.grammar.specs.Grammar.{grammarConditions}
 use Rattle.grammar.specs.Run.{runConditions, Settled, RunOf, Parses, answered, countsOf, left}
 use Rattle.grammar.specs.Pace.{Reports}
@@ -20,7 +20,6 @@ use Rattle.grammar.specs.declared.Counts.{Counts}
 use Rattle.grammar.specs.declared.Report.{Report}
 use Rattle.grammar.specs.theory.Answers.{admitted, runs-determined, settled-unique}
 use Rattle.grammar.specs.theory.Conditions.{Held, lowest-unique}
-use Rattle.grammar.specs.theory.Determined.{file-read-unique}
 use Rattle.grammar.specs.theory.Due.{Above, Due, Fails, InOrder, lowest-due, lowest-held}
 use Rattle.grammar.specs.theory.Outcomes.{given-refused, given-same, refused-same}
 
@@ -29,6 +28,10 @@ use Rattle.grammar.specs.theory.Outcomes.{given-refused, given-same, ref
 pub file-in-order : (bytes : List ℕ) (room : ℕ) → InOrder (fileConditions bytes room)
 unfolding Above
 file-in-order bytes room = (omega arith, (omega arith, (omega arith, (omega arith, tt))))
+
+pub write-in-order : (ws : List ℕ) (room : ℕ) → InOrder (writeConditions ws room)
+unfolding Above
+write-in-order ws room = (omega arith, (omega arith, tt))
 
 pub grammar-in-order : (ws : List ℕ) → InOrder (grammarConditions ws)
 unfolding Above
@@ -45,29 +48,6 @@ lowest-exactly {cs} order l r = (
   λ e. lowest-due cs order r .0 (subst (λ q. Lowest cs q) e l),
   λ d. lowest-unique l (lowest-due cs order r .1 d),
 )
-
--- ---- The reader
-
-module _ {bytes : List ℕ} {room : ℕ} where
-  due-file : (r : Refusal) → Lowest (fileConditions bytes room) (some r) ↔ Due (fileConditions bytes room) r
-  due-file r = lowest-due (fileConditions bytes room) (file-in-order bytes room) r
-
-  refused-due : {a : Outcome ℕ} {x : List ℕ} {r : Refusal} → FileRead bytes room a x → a ≡ refused r → Due (fileConditions bytes room) r
-  refused-due (FileRead.read l) e = absurd (given-refused refl e)
-  refused-due (FileRead.refuse {r = q} l) e = subst (λ r. Due (fileConditions bytes room) r) (refused-same e) (due-file q .0 l)
-
-  pub reader-exactly : {a : Outcome ℕ} {x : List ℕ} → FileRead bytes room a x → (r : Refusal)
-      → (a ≡ refused r) ↔ Due (fileConditions bytes room) r
-  reader-exactly p r = (λ e. refused-due p e, λ d. file-read-unique p (FileRead.refuse (due-file r .1 d)) .0)
-
-  pub reader-zeros : {a : Outcome ℕ} {x : List ℕ} {r : Refusal} → FileRead bytes room a x → a ≡ refused r → x ≡ cleared room
-  reader-zeros (FileRead.read l) e = absurd (given-refused refl e)
-  reader-zeros (FileRead.refuse l) e = refl
-
-  pub reader-words : {a : Outcome ℕ} {x : List ℕ} {n : ℕ} → FileRead bytes room a x → a ≡ given n
-      → (n ≡ length (fileWords bytes)) × (x ≡ filled room (fileWords bytes))
-  reader-words (FileRead.read l) e = (sym (given-same e), refl)
-  reader-words (FileRead.refuse l) e = absurd (given-refused e refl)
 
 -- ---- The run of a log, which the parser and the report share
 

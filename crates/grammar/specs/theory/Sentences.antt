@@ -29,10 +29,10 @@ use Rattle.grammar.specs.theory.Decided.{decFirstOf, decReliableOf}
 use Rattle.grammar.specs.theory.Predictive as Predictive
 use Rattle.grammar.specs.theory.Chosen as Chosen
 use Rattle.grammar.specs.theory.Token as Token
-use Rattle.grammar.specs.theory.Determined as Determined
 use Rattle.grammar.specs.theory.Answers as Answers
 use Rattle.grammar.specs.theory.Conditions.{lowest-unique}
 use Rattle.grammar.specs.theory.Due.{lowest-held}
+use Rattle.grammar.specs.theory.Fills.{fills-unique}
 use Rattle.grammar.specs.theory.Refused as Refused
 use Rattle.grammar.specs.theory.Room as Room
 
@@ -125,7 +125,7 @@ verdict-unique v w = lowest-unique v w
 -- The reader's answer and its buffer are one.
 pub file-read-unique : {bytes : List ℕ} {room : ℕ} {a b : Outcome ℕ} {x y : List ℕ} → FileRead bytes room a x
     → FileRead bytes room b y → (a ≡ b) × (x ≡ y)
-file-read-unique p q = Determined.file-read-unique p q
+file-read-unique p q = fills-unique (p .read) (q .read)
 
 -- The parser's answer and its two buffers are one.
 pub parsed-unique : {ws log : List ℕ} {editRoom ruleRoom : ℕ} {a b : Outcome Counts} {x y u v : List ℕ}

@@ -1,6 +1,6 @@
 -- `listing::show_input` meets its contract: refusal 1, or what the file gives.
 use mathlib.Core.Path.{ap}
-use Rattle.listing.specs.Answer.{blocksOf}
+use Rattle.listing.specs.Answer.{endOf}
 use Rattle.listing.specs.Shown.{shown-refused, input-counted, input-refused}
 use borrow.Author.Needs.{needs}
 use Rattle.listing.proofs.show_input.Statement.{statement}
@@ -17,7 +17,7 @@ show-file-requires c κs =
     let at-counted = c .before .before in
     let at-blocks-of = at-counted .before .before in
     let start = at-blocks-of .before .before .before in
-    let right = input-counted (at-blocks-of .blocks-of .ensures) (ap blocksOf (at-counted .counted .given .1)) in
+    let right = input-counted (at-blocks-of .blocks-of .ensures) (ap endOf (at-counted .counted .given .1)) in
     (start .pre, (right .0, right .1))
 
 enum-known-counted-2 : tie.Need-enum-known-counted-2
@@ -42,7 +42,7 @@ returns-2 c =
     let at-blocks-of = at-counted2 .before .before in
     let start = at-blocks-of .before .before .before in
     shown-refused (at-counted2 .counted2 .given .0 .0)
-    (input-refused (at-blocks-of .blocks-of .ensures) (ap blocksOf (at-counted2 .counted2 .given .1)))
+    (input-refused (at-blocks-of .blocks-of .ensures) (ap endOf (at-counted2 .counted2 .given .1)))
     (at-refused .refused .ensures) (start .pre)
 
 pub show-input-spec : {M : Type 1} → statement M

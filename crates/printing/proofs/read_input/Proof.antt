@@ -5,7 +5,7 @@ use native.Mathlib.Omega.{arith}
 use mathlib.Core.Path.{_≡_, refl, _∙_}
 use Prim.Native.Nat.{_≤_}
 use lib.ListN.{length}
-use Rattle.printing.specs.Input.{bytes-fit}
+use Rattle.input.specs.Parts.{bytes-fit}
 use Rattle.printing.proofs.read_input.Statement.{statement}
 use Rattle.printing.proofs.read_input.Tie as tie
 

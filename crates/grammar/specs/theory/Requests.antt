@@ -1,0 +1,79 @@
+-- The theorems that document 02 asks to be shown, request by request, in its words. Each is proved here by citing.
+use Prim.Native.Nat.{ℕ, _≤_}
+use mathlib.Core.Path.{_≡_, refl, sym, ap, ap₂, subst, _∙_}
+use mathlib.Core.List.{List}
+use lib.ListN.{length, take}
+use Rattle.grammar.specs.Buffers.{filled, cleared, Fills}
+use Rattle.grammar.specs.File.{FileRead}
+use Rattle.grammar.specs.Writing.{blocksOf, WordCount, writeConditions, FileWritten}
+use Rattle.grammar.specs.Refusals.{Outcome, given}
+use Rattle.grammar.specs.theory.Blocks.{blocks-below}
+use Rattle.grammar.specs.theory.Conditions.{Held, held, all-met, passes}
+use Rattle.grammar.specs.theory.Demands.{Answered}
+use Rattle.grammar.specs.theory.Due.{Due, InOrder}
+use Rattle.grammar.specs.theory.Fills.{fills-unique, fills-exactly, fills-zeros, fills-content, front-of}
+use Rattle.grammar.specs.theory.OnlyFile as OnlyFile
+use Rattle.grammar.specs.theory.OnlyFile.{Below}
+use Rattle.grammar.specs.theory.ReadBack.{file-right, file-holds, is-blocks}
+use Rattle.grammar.specs.theory.Refused.{write-in-order}
+
+-- ======== (i) Write grammar files too
+
+-- The file of 1 to 2,783 words, each below 65,536, is bytes.
+pub file-bytes : (ws : List ℕ) → WordCount (length ws) → Below 65536 ws → Below 256 (blocksOf ws)
+file-bytes ws count small = blocks-below ws small (count .most)
+
+-- Reading it, into any buffer that has room for the words, gives the words.
+pub file-reads : (ws : List ℕ) (room : ℕ) → WordCount (length ws) → length ws ≤ room
+    → FileRead (blocksOf ws) room (given (length ws)) (filled room ws)
+file-reads ws room count fits =
+    let right = file-right ws count in
+    let words = file-holds ws count in
+    subst (λ (vs : List ℕ). FileRead (blocksOf ws) room (given (length vs)) (filled room vs)) words
+    (record {
+      read = Fills.fill (passes (right .size) (passes (right .checks) (passes (right .blocks)
+          (passes (subst (λ (vs : List ℕ). length vs ≤ room) (sym words) fits) all-met))));
+    })
+
+-- "Reading back the blocks written, into a word buffer long enough, gives the same words": of a buffer that the writer filled, the bytes
+-- that it counts.
+pub read-back : {ws x : List ℕ} {byteRoom n : ℕ} (room : ℕ) → FileWritten ws byteRoom (given n) x → length ws ≤ room
+    → FileRead (take n x) room (given (length ws)) (filled room ws)
+unfolding Held
+read-back {ws} {x} {byteRoom} {n} room p fits =
+    let content = fills-content (p .write) refl in
+    let blocks : take n x ≡ blocksOf ws = ap₂ take (content .count) (content .holds) ∙ front-of byteRoom (blocksOf ws) in
+    subst (λ (bytes : List ℕ). FileRead bytes room (given (length ws)) (filled room ws)) (sym blocks)
+    (file-reads ws room (held (content .met) .0) fits)
+
+-- "a file the reader accepts is the only one for its words": it is the file of its words, which are the front of the buffer,
+pub accepted-file : {bytes buffer : List ℕ} {room n : ℕ} → Below 256 bytes → FileRead bytes room (given n) buffer
+    → bytes ≡ blocksOf (take n buffer)
+accepted-file {bytes} small p =
+    let accepted = OnlyFile.accepted p in
+    is-blocks bytes small (accepted .right) ∙ ap blocksOf (sym (accepted .words))
+
+-- and two accepted files of the same words are the same bytes.
+pub only-file : {a b x y : List ℕ} {room room′ n m : ℕ} → Below 256 a → Below 256 b → FileRead a room (given n) x
+    → FileRead b room′ (given m) y → take n x ≡ take m y → a ≡ b
+only-file small-a small-b p q same = accepted-file small-a p ∙ (ap blocksOf same ∙ sym (accepted-file small-b q))
+
+-- The writer's conditions stand in the order of their numbers.
+pub writer-in-order : (ws : List ℕ) (room : ℕ) → InOrder (writeConditions ws room)
+writer-in-order ws room = write-in-order ws room
+
+-- Demand 1 of the writer: the file of the words, zeros behind it, or a refusal that is due, and zeros.
+pub writer-answers : {ws x : List ℕ} {room : ℕ} {a : Outcome ℕ} → FileWritten ws room a x
+    → Answered a (Due (writeConditions ws room)) (x ≡ cleared room)
+    (λ n. (n ≡ length (blocksOf ws)) × (x ≡ filled room (blocksOf ws)))
+writer-answers {ws} {room = room} p =
+    record {
+      exactly = fills-exactly (write-in-order ws room) (p .write);
+      zeros = λ r e. fills-zeros (p .write) e;
+      holds = λ n e. let content = fills-content (p .write) e in (content .count, content .holds);
+    }
+
+-- The writer's answer and its buffer are one.
+pub file-written-unique : {ws : List ℕ} {room : ℕ} {a b : Outcome ℕ} {x y : List ℕ} → FileWritten ws room a x
+    → FileWritten ws room b y → (a ≡ b) × (x ≡ y)
+file-written-unique p q = fills-unique (p .write) (q .write)

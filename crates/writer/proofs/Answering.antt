@@ -1,0 +1,39 @@
+-- Which answer is right once the tests have told: the two refusals in their order, then the file.
+use Prim.Native.Nat.{ℕ, _*_, _≤_, _<_}
+use native.Mathlib.Omega.{arith}
+use mathlib.Core.Path.{_≡_, sym, ap, subst, subst₂, _∙_}
+use mathlib.Core.List.{List}
+use mathlib.Core.Option.{some}
+use lib.ListN.{length}
+use Rattle.grammar.specs.Buffers.{filled, cleared, Fills}
+use Rattle.grammar.specs.Refusals.{Lowest, given, refused}
+use Rattle.grammar.specs.Writing.{blocksFor, blocksOf, WordCount, writeConditions, FileWritten}
+use Rattle.grammar.specs.declared.Refusal.{Refusal}
+use Rattle.grammar.specs.declared.Refusal.the-variants.{BadCount, ShortBytes}
+use Rattle.grammar.specs.theory.Blocks.{file-size}
+use Rattle.grammar.specs.theory.Conditions.{all-met, applies, passes}
+
+-- A cleared buffer is one of its own length.
+pub lent-clear : {room : ℕ} {buffer : List ℕ} → length buffer ≡ room → buffer ≡ cleared room → buffer ≡ cleared (length buffer)
+lent-clear same clear = clear ∙ ap cleared (sym same)
+
+module _ (ws : List ℕ) (room : ℕ) where
+  -- A refusal leaves a cleared buffer.
+  refuses : {r : Refusal} {buffer : List ℕ} → Lowest (writeConditions ws room) (some r) → buffer ≡ cleared room
+      → FileWritten ws room (refused r) buffer
+  refuses {r} lowest clear = subst (FileWritten ws room (refused r)) (sym clear) (record { write = Fills.refuse lowest })
+
+  pub refuses-count : {buffer : List ℕ} → (WordCount (length ws) → ⊥) → buffer ≡ cleared room
+      → FileWritten ws room (refused BadCount) buffer
+  refuses-count wrong = refuses (applies wrong)
+
+  pub refuses-room : {buffer : List ℕ} → WordCount (length ws) → room < 512 * blocksFor (length ws) → buffer ≡ cleared room
+      → FileWritten ws room (refused ShortBytes) buffer
+  refuses-room count short = refuses (passes count (applies (λ fits. omega arith)))
+
+  pub writes : {n lent : ℕ} {buffer : List ℕ} → WordCount (length ws) → n ≡ 512 * blocksFor (length ws) → n ≤ room → lent ≡ room
+      → buffer ≡ filled lent (blocksOf ws) → FileWritten ws room (given n) buffer
+  writes count size fits same holds =
+      subst₂ (λ (m : ℕ) (b : List ℕ). FileWritten ws room (given m) b) (file-size ws ∙ sym size)
+      (sym (holds ∙ ap (λ (m : ℕ). filled m (blocksOf ws)) same))
+      (record { write = Fills.fill (passes count (passes (omega arith) all-met)) })
