@@ -54,6 +54,11 @@ int main(void) {
         printf("  %s symbol %u at place %u\n", edit[0] == ODHRASHUP_DELETE ? "delete" : "insert", edit[2], edit[1]);
     }
 
+    /* The last mark alone: it goes, and nothing is missing, since a shift may be empty. So room for one record is enough. */
+    status = odhrashup_parse(words, n, log + 4, 1, edits, ODHRASHUP_EDIT_WORDS, rules, LEN(rules), counts, LEN(counts));
+    printf("a lone done: status %u, %llu moves, %llu edits\n", status, (unsigned long long)counts[ODHRASHUP_PARSE_MOVES],
+           (unsigned long long)counts[ODHRASHUP_PARSE_EDITS]);
+
     status = odhrashup_pace(words, n, log, LEN(log), ticks, LEN(ticks), edits, LEN(edits), rules, LEN(rules), counts,
                             LEN(counts), mean, LEN(mean));
     show("pace", status, counts, mean);

@@ -62,7 +62,7 @@ extern "C" {
 #define ODHRASHUP_PACE_COUNTS 2
 
 /* ---- What stands in an edit record: kind, place, symbol. A delete has the place and the token of what was left out, an insert the
- * place r of the token before which its symbol was put. */
+ * place r of the token before which its symbol was put. A symbol that can be empty is not missing: it leaves no record. */
 
 #define ODHRASHUP_EDIT_WORDS 3
 #define ODHRASHUP_DELETE 1

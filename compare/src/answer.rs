@@ -1,5 +1,5 @@
-//! What an implementation of document 01, and of request (i) of document 02, answers, besides the
-//! buffers it was lent.
+//! What an implementation of document 01, and of requests (i) and (ii) of document 02, answers, besides
+//! the buffers it was lent.
 
 /// A refusal number: 1 to 12 of the table, 13 and 14 of request (i).
 pub type Refusal = u16;
@@ -53,7 +53,7 @@ pub struct Report {
     pub pace: Pace,
 }
 
-/// One implementation of document 01. Another one, behind a C interface say, joins the
+/// One implementation of these documents. Another one, behind a C interface say, joins the
 /// comparison and the benchmark by implementing this trait.
 pub trait Implementation {
     /// The name that heads its column.

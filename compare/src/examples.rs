@@ -1,7 +1,8 @@
-//! The bench examples of document 01 and its further claims, and in [`writing`] the examples of
-//! request (i). The expected results are written by hand from the documents, never taken from a
-//! program.
+//! The bench examples of document 01 and its further claims, with the records that request (ii) of
+//! document 02 leaves them, in [`empty_parts`] more examples of that request, and in [`writing`] those of
+//! request (i). The expected results are written by hand from the documents, never taken from a program.
 
+pub mod empty_parts;
 pub mod writing;
 
 use crate::answer::{Pace, Prints};
@@ -89,7 +90,8 @@ impl Example {
     }
 }
 
-/// All examples: cases 1 to 12 in order, then the further claims.
+/// All examples: cases 1 to 12 in order, then the further claims, then those of request (ii). By it
+/// "cases 3, 4, 6, 7 and 12 lose their records for 67 and 64", and "move counts" stay.
 pub fn all() -> Vec<Example> {
     let g = bench_g();
     let with_reliability_of_4 = |reliability| {
@@ -103,33 +105,20 @@ pub fn all() -> Vec<Example> {
         draft.terminals[1].0 = cost;
         draft
     };
-    let case_3_edits = [[INSERT, 2, 67], [INSERT, 2, 3]];
+    let case_3_edits = [[INSERT, 2, 3]];
     let case_5 = |name| {
         let edits = [[INSERT, 1, 66], [INSERT, 1, 4]];
         parsed(name, &g, &[1, 1, 2, 3, 4], (15, &[0, 2, 0, 2, 3]), &edits)
     };
-    let case_6_edits = [
-        [DELETE, 2, 4],
-        [INSERT, 3, 67],
-        [INSERT, 3, 3],
-        [INSERT, 3, 4],
-        [INSERT, 3, 64],
-    ];
-    let case_7_edits = [[DELETE, 3, 5], [INSERT, 4, 4], [INSERT, 4, 64]];
-    // 253 tokens of 1: START and 253 closers wait when END comes, and all are inserted.
-    let mut all_inserted = vec![[INSERT, 253, 64]];
-    all_inserted.extend(vec![[INSERT, 253, 2]; 253]);
-    vec![
+    let case_6_edits = [[DELETE, 2, 4], [INSERT, 3, 3], [INSERT, 3, 4]];
+    let case_7_edits = [[DELETE, 3, 5], [INSERT, 4, 4]];
+    // 253 tokens of 1: START and 253 closers wait when END comes. START is dropped.
+    let all_inserted = [[INSERT, 253, 2]; 253];
+    let mut examples = vec![
         parsed("case-01", &g, &[], (2, &[]), &[]),
         parsed("case-02", &g, &[1, 2, 3, 4], (10, &[0, 2, 3]), &[]).with_cycle(&[0; 4], 0),
         parsed("case-03", &g, &[1, 2, 4], (10, &[0, 2, 3]), &case_3_edits),
-        parsed(
-            "case-04",
-            &g,
-            &[4],
-            (3, &[]),
-            &[[DELETE, 0, 4], [INSERT, 1, 64]],
-        ),
+        parsed("case-04", &g, &[4], (3, &[]), &[[DELETE, 0, 4]]),
         case_5("case-05").with_cycle(&[0; 5], 0),
         parsed(
             "case-06",
@@ -160,7 +149,7 @@ pub fn all() -> Vec<Example> {
             &Draft::new(2, 1, &[(0, &[])]),
             &[1],
             (3, &[]),
-            &[[DELETE, 0, 1], [INSERT, 1, 64]],
+            &[[DELETE, 0, 1]],
         ),
         // "For case 5 below with ticks 100, 250, 400, 900, 1250 it prints exactly"
         case_5("case-05-printed").with_cycle(&[100, 250, 400, 900, 1_250], 1_000),
@@ -173,7 +162,7 @@ pub fn all() -> Vec<Example> {
             &case_3_edits,
         ),
         // "253 tokens of 1 are accepted and 254 refused with 11": 253 expands and matches,
-        // 254 inserts, END matched.
+        // a drop and 253 inserts, END matched.
         parsed(
             "nested-253",
             &nested,
@@ -182,11 +171,13 @@ pub fn all() -> Vec<Example> {
             &all_inserted,
         ),
         refused("nested-254", &nested, &[1; 254], 11),
-        // "START costs 59,968 and passes; cost 938 gives 60,032 and refusal 8": START is
-        // inserted before END, END is matched.
+        // "START costs 59,968 and passes; cost 938 gives 60,032 and refusal 8": START, which
+        // cannot be empty, is inserted before END, END is matched.
         parsed("cost-937", &eights(937), &[], (2, &[]), &[[INSERT, 0, 64]]),
         refused("cost-938", &eights(938), &[], 8),
-    ]
+    ];
+    examples.extend(empty_parts::all());
+    examples
 }
 
 /// The listing that document 01 prints in full, for the example "case-05-printed".

@@ -1,5 +1,5 @@
-//! An implementation of document 01, and of request (i) of document 02, that shares nothing with the
-//! proved one, and what is needed to compare implementations with each other.
+//! An implementation of document 01, and of requests (i) and (ii) of document 02, that shares nothing
+//! with the proved one, and what is needed to compare implementations with each other.
 //!
 //! * [`answer`]: what every implementation answers, and the trait they share;
 //! * [`plain`]: the plain implementation, a sentence of the documents at a time;
@@ -9,8 +9,8 @@
 //! * [`implementations`]: the list of those that are compared and measured;
 //! * [`generate`]: seeded inputs of every kind;
 //! * [`differ`]: runs one input on implementations and tells the first difference;
-//! * [`examples`]: the bench examples of document 01 and those of request (i), expected results written
-//!   by hand;
+//! * [`examples`]: the bench examples of document 01 and those of requests (i) and (ii), expected results
+//!   written by hand;
 //! * [`telling`]: inputs shaped by hand, each to tell a wrong reading apart;
 //! * [`steps`]: the stored calls of the test programs;
 //! * [`stored`]: the plain implementation on all that the programs in the gate have stored.

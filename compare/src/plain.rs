@@ -1,5 +1,5 @@
-//! The plain implementation of document 01 and of request (i) of document 02. It is meant to be read
-//! beside the documents: sets are textbook fixpoints, the stack is inspected literally, and comments
+//! The plain implementation of document 01 and of requests (i) and (ii) of document 02. It is meant to be
+//! read beside the documents: sets are textbook fixpoints, the stack is inspected literally, and comments
 //! in quotes are the documents' own words. Nothing here is made for speed.
 
 mod check;

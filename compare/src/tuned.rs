@@ -1,4 +1,4 @@
-//! A second implementation of document 01, made for speed: sets are u64 masks, rules are
+//! A second implementation of the same rules, made for speed: sets are u64 masks, rules are
 //! packed into one word each, and moves that always follow each other are made at once.
 //!
 //! The tables stand in a [`Tables`] that the caller keeps, so that nothing is allocated and

@@ -1,7 +1,8 @@
-//! Single sentences of document 01, each with an answer worked out by hand, on every
+//! Single sentences of documents 01 and 02, each with an answer worked out by hand, on every
 //! implementation.
 
 use compare::answer::{Pace, Parsed, Prints};
+use compare::examples::empty_parts::two_parts;
 use compare::generate::families::bench_g;
 use compare::generate::file::file_of;
 use compare::generate::Draft;
@@ -139,7 +140,7 @@ fn an_expand_tests_11_before_12() {
 #[test]
 fn a_record_is_written_only_where_all_three_words_fit() {
     each(|on| {
-        // Case 3 has two records and three rules.
+        // Case 7 has two records and three rules.
         let words = bench_g().words();
         for (edit_words, rule_words, good) in [
             (5, 3, false),
@@ -149,22 +150,67 @@ fn a_record_is_written_only_where_all_three_words_fit() {
             (6, 2, false),
         ] {
             let (mut edits, mut rules) = (vec![7; edit_words], vec![7; rule_words]);
-            let answer = on.parse(&words, &[1, 2, 4], &mut edits, &mut rules);
+            let answer = on.parse(&words, &[1, 2, 3, 5], &mut edits, &mut rules);
             let mut expected = (vec![0; edit_words], vec![0; rule_words]);
             if good {
                 let parsed = Parsed {
-                    moves: 10,
+                    moves: 11,
                     edits: 2,
                     rules: 3,
                 };
                 assert_eq!(answer, Ok(parsed));
-                expected.0[..6].copy_from_slice(&[2, 2, 67, 2, 2, 3]);
+                expected.0[..6].copy_from_slice(&[1, 3, 5, 2, 4, 4]);
                 expected.1[..3].copy_from_slice(&[0, 2, 3]);
             } else {
                 assert_eq!(answer, Err(12));
             }
             assert_eq!((edits, rules), expected);
         }
+    });
+}
+
+/// Request (ii): refusal 12 and others "now speak of the shorter list". Case 4 deletes the 4 and drops START:
+/// one record, where 01's rule has two.
+#[test]
+fn a_drop_asks_for_no_room() {
+    each(|on| {
+        let words = bench_g().words();
+        for room in 0..=7 {
+            let (mut edits, mut rules) = (vec![7; room], vec![7; 1]);
+            let answer = on.parse(&words, &[4], &mut edits, &mut rules);
+            let mut expected = vec![0; room];
+            if room < 3 {
+                assert_eq!(answer, Err(12), "{room} edit words");
+            } else {
+                let parsed = Parsed {
+                    moves: 3,
+                    edits: 1,
+                    rules: 0,
+                };
+                assert_eq!(answer, Ok(parsed), "{room} edit words");
+                expected[..3].copy_from_slice(&[1, 0, 4]);
+            }
+            assert_eq!((edits, rules), (expected, vec![0]));
+        }
+    });
+}
+
+/// Request (ii): so does "the test for a clean cycle". A delete before a drop spoils a cycle, though nothing
+/// is inserted; a drop before an expand or a match spoils none.
+#[test]
+fn a_drop_spoils_no_cycle_and_the_record_of_its_correction_does() {
+    each(|on| {
+        let mut draft = two_parts();
+        (draft.opening, draft.closing) = (1, 3);
+        let ticks = [10, 20, 40, 80];
+        // 65 and 66 are dropped, without a correction.
+        assert_eq!(report(on, &draft, &[1, 2, 3], &ticks[..3]), (1, 30, 30.0));
+        // The second 1 is deleted, and 65 dropped before the 2.
+        assert_eq!(report(on, &draft, &[1, 1, 2, 3], &ticks), (0, 0, -1.0));
+        // The 2 is inserted at the closing mark.
+        assert_eq!(report(on, &draft, &[1, 3], &ticks[..2]), (0, 0, -1.0));
+        // The 4 behind the closing mark is deleted.
+        assert_eq!(report(on, &draft, &[1, 2, 3, 4], &ticks), (1, 30, 30.0));
     });
 }
 

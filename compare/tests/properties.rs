@@ -1,8 +1,8 @@
-//! What document 01 says of every parse, tried on the plain implementation.
+//! What documents 01 and 02 say of every parse, tried on the plain implementation.
 
 use compare::generate::log::{damaged, noise, Sampler};
 use compare::generate::{Random, Source};
-use compare::plain;
+use compare::plain::{self, Grammar, Sets, START};
 
 const DELETE: u16 = 1;
 
@@ -39,8 +39,33 @@ fn repaired(tokens: &[u16], edits: &[[u16; 3]]) -> Vec<u16> {
     log
 }
 
+/// Whether START derives a log. No correction is asked, so that one that leaves no record is no excuse.
+fn is_derivable(grammar: &Grammar, sets: &Sets, log: &[u16]) -> bool {
+    // The top is the last.
+    let mut stack = vec![START];
+    for &token in log {
+        loop {
+            let Some(top) = stack.pop() else {
+                return false;
+            };
+            if top == token {
+                break;
+            }
+            let fits = |rule: &&plain::Rule| {
+                rule.left == top && sets.first_of(&rule.right).contains(token)
+            };
+            match grammar.rules.iter().find(fits) {
+                Some(rule) => stack.extend(rule.right.iter().rev()),
+                None if sets.can_be_empty(&[top]) => {}
+                None => return false,
+            }
+        }
+    }
+    sets.can_be_empty(&stack)
+}
+
 /// "It yields a correct log whenever each inserted nonterminal is replaced by any terminal
-/// string it derives", and a correct log has no edits.
+/// string it derives", and a correct log has no edits. Request (ii): with the shorter list too.
 #[test]
 fn repaired_logs_are_correct() {
     let source = Source::new(11);
@@ -50,6 +75,7 @@ fn repaired_logs_are_correct() {
         let draft = &source.stock()[round % source.stock().len()];
         let sampler = Sampler::new(draft);
         let words = draft.words();
+        let (grammar, sets) = plain::check(&words).expect("an accepted grammar");
         let correct = sampler.string(&mut random, 64, 40, 100);
         let tokens = match round % 3 {
             0 => damaged(&mut random, &correct, draft.t(), 100),
@@ -60,15 +86,16 @@ fn repaired_logs_are_correct() {
             continue;
         };
         edited += usize::from(!edits.is_empty());
-        assert!(
-            moves > (tokens.len() + edits.len()) as u64 / 2,
-            "moves count all kinds"
-        );
+        let listed = (tokens.len() + edits.len()) as u64;
+        assert!(moves > listed / 2, "moves count all kinds");
         let mut log = Vec::new();
         for symbol in repaired(&tokens, &edits) {
             replaced += usize::from(symbol >= 64);
             log.extend(sampler.string(&mut random, symbol, 3, 20));
         }
+        assert!(is_derivable(&grammar, &sets, &log), "{words:?} {tokens:?}");
+        let was_derivable = is_derivable(&grammar, &sets, &tokens);
+        assert_eq!(edits.is_empty(), was_derivable, "{words:?} {tokens:?}");
         match parse(&words, &log) {
             Ok((again, _)) => assert!(again.is_empty(), "{words:?} {tokens:?}"),
             // Too long or too deep by the strings put in.

@@ -1,5 +1,5 @@
-//! Runs the twelve bench examples of document 01, its further claims and the examples of request (i)
-//! on every implementation, against results written by hand. Exits with 1 where one differs.
+//! Runs the twelve bench examples of document 01, its further claims and the examples of requests (i) and
+//! (ii) on every implementation, against results written by hand. Exits with 1 where one differs.
 
 use compare::examples::{self, writing};
 use compare::implementations;

@@ -1,5 +1,5 @@
-//! Writes the bench examples of document 01 and its further claims into a folder: for each
-//! the bytes of standard input (`NAME.in`) and the expected listing (`NAME.out`).
+//! Writes the bench examples of document 01, its further claims and the examples of request (ii) into a
+//! folder: for each the bytes of standard input (`NAME.in`) and the expected listing (`NAME.out`).
 
 use compare::examples;
 use compare::generate::file::standard_input;

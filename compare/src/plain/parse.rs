@@ -1,4 +1,6 @@
-//! "Moves": the repairing parse, refusals 10 to 12, and the two lent buffers.
+//! "Moves": the repairing parse, refusals 10 to 12, and the two lent buffers. Request (ii) of document
+//! 02 overrules one of document 01's sentences here: "A popped symbol that can be empty becomes a drop
+//! move, with no edit record."
 
 use super::check::check;
 use super::grammar::{is_nonterminal, Grammar, END, START};
@@ -170,7 +172,8 @@ impl<'a> Run<'a> {
         Ok(())
     }
 
-    /// "Any other top can be empty: drop, one pop, nothing listed."
+    /// "Any other top can be empty: drop, one pop, nothing listed." A correction has such moves too, by
+    /// request (ii).
     fn drop_top(&mut self) {
         let top = self.stack.remove(0);
         assert!(self.sets.can_be_empty(&[top]), "a dropped top can be empty");
@@ -186,19 +189,31 @@ impl<'a> Run<'a> {
             self.list_edit(DELETE, place, self.token(self.place))?;
             self.place += 1;
         }
-        // "Each of A1..Ai-1, top first, is an insert move, one pop each." Here i counts
-        // from 0, so i symbols stand above the one that fits.
+        // 01: "Each of A1..Ai-1, top first, is an insert move, one pop each." 02 (ii): "01's rule is
+        // wrong here. A popped symbol that can be empty becomes a drop move, with no edit record."
+        // Here i counts from 0, so i symbols stand above the one that fits.
         for _ in 0..i {
-            self.list_edit(INSERT, r as u16, self.stack[0])?;
-            self.stack.remove(0);
+            let top = self.stack[0];
+            if self.sets.can_be_empty(&[top]) {
+                self.drop_top();
+            } else {
+                self.insert_top(r as u16)?;
+            }
         }
         // "Token r is then current."
         Ok(())
     }
 
+    /// "an insert move, one pop"; "an insert names r".
+    fn insert_top(&mut self, r: u16) -> Result<(), Refusal> {
+        self.list_edit(INSERT, r, self.stack[0])?;
+        self.stack.remove(0);
+        Ok(())
+    }
+
     /// "Take the least place r, from the current one to n, for which some i has token r in
     /// FIRST(Ai) and cost(A1..Ai-1) strictly below the reliability of token r. For that r
-    /// take the least i." The answer's i counts from 0.
+    /// take the least i." 02 (ii): "Costs, r and i stay as they are." The answer's i counts from 0.
     fn search(&self) -> (usize, usize) {
         for r in self.place..=self.tokens.len() {
             let token = self.token(r);
@@ -220,7 +235,8 @@ impl<'a> Run<'a> {
     }
 
     /// One delete or insert move with its record. "A record is written only where all three
-    /// words fit"; else refusal 12.
+    /// words fit"; else refusal 12, which by 02 (ii) speaks "of the shorter list": a drop asks for no
+    /// room.
     fn list_edit(&mut self, kind: u16, place: u16, symbol: u16) -> Result<(), Refusal> {
         if 3 * (self.edits.len() + 1) > self.edit_words {
             return Err(12);

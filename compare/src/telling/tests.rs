@@ -13,8 +13,8 @@ fn listed(input: &[u8]) -> String {
 fn the_inputs_stand_where_they_should() {
     let lines: Vec<String> = inputs().iter().map(|input| listed(input)).collect();
     let edits = [
-        "ok tokens 1372 moves 10930 edits 8191 rules 1366",
-        "ok tokens 1371 moves 10930 edits 8192 rules 1366",
+        "ok tokens 1371 moves 10930 edits 8191 rules 1366",
+        "ok tokens 1370 moves 10930 edits 8192 rules 1366",
         "refused 12",
     ];
     assert_eq!(lines[..3], edits);
@@ -58,7 +58,35 @@ fn the_calls_stand_where_they_should() {
     assert_eq!(refusals[12..16], [12, 12, 11, 11]);
     assert_eq!(refusals[16..21], [0, 8, 8, 0, 8]);
     assert_eq!(refusals[21..28], [10; 7]);
-    assert_eq!(refusals[28..], [0, 10]);
+    assert_eq!(refusals[28..30], [0, 10]);
+}
+
+/// The last calls ask for room: one word less than the records take, just as many, and three more. The
+/// moves are counted by hand; a drop is one as an insert is.
+#[test]
+fn room_is_tested_over_the_shorter_list() {
+    let all = parses();
+    let (_, calls) = all.split_at(all.len() - 12);
+    for (calls, answer) in calls.chunks(3).zip([
+        // Six for each 1 4 2, and START dropped and END matched behind them.
+        (3 * 6 + 2, 3),
+        // One more for the 3, and its expand.
+        (2 * 6 + 1 + 2, 2),
+        (7, 1),
+        // An expand and a match for each 1, four pops for each of them and one of START, END matched.
+        (63 * 2 + 63 * 4 + 1 + 1, 63),
+    ]) {
+        let answers: Vec<Option<(u64, u64)>> = calls.iter().map(counted).collect();
+        assert_eq!(answers, [None, Some(answer), Some(answer)]);
+    }
+}
+
+/// The moves and records of a call; nothing where it is refused with 12.
+fn counted(call: &Call) -> Option<(u64, u64)> {
+    let (mut edits, mut rules) = (vec![0; call.edit_room], vec![0; call.rule_room]);
+    let answer = plain::parse(&call.words, &call.tokens, &mut edits, &mut rules);
+    assert!(answer.is_ok() || answer == Err(12));
+    answer.ok().map(|parsed| (parsed.moves, parsed.edits))
 }
 
 /// The refusal of a call, 0 for none, and its number of edits.

@@ -197,11 +197,11 @@ impl State<'_> {
     }
 
     /// The moves of END: it fits only at the bottom, by drops where all above can be empty,
-    /// else by inserts.
+    /// else by a correction.
     fn end(&mut self, place: usize) -> Result<(), Refusal> {
         match self.fits(0) {
             Some(_) => self.moves += self.top.height() as u64 - 1,
-            None => self.insert_down_to(1, place as u16)?,
+            None => self.pop_down_to(1, place as u16)?,
         }
         self.moves += 1;
         Ok(())

@@ -1,4 +1,4 @@
-//! The search for a token of use, and the delete and insert moves.
+//! The search for a token of use, and the delete, insert and drop moves of a correction.
 
 use super::parse::State;
 use crate::answer::Refusal;
@@ -9,7 +9,7 @@ const INSERT: u16 = 2;
 const PATIENCE: usize = 2;
 
 impl State<'_> {
-    /// Deletes tokens until one is of use, inserts what stands above where it fits, and
+    /// Deletes tokens until one is of use, pops what stands above where it fits, and
     /// answers its place.
     pub(super) fn repair(&mut self, tokens: &[u16], place: usize) -> Result<usize, Refusal> {
         // The tokens worth a search; all of them until some searches were in vain.
@@ -17,7 +17,7 @@ impl State<'_> {
         for (r, &token) in tokens.iter().enumerate().skip(place) {
             if worth >> (token & 63) & 1 == 1 {
                 if let Some(height) = self.useful(usize::from(token & 63)) {
-                    self.insert_down_to(height, r as u16)?;
+                    self.pop_down_to(height, r as u16)?;
                     return Ok(r);
                 }
                 if r == place + PATIENCE {
@@ -26,8 +26,8 @@ impl State<'_> {
             }
             self.record(DELETE, r as u16, token)?;
         }
-        // END is of use at the bottom, whatever stands above: inserts, no drops.
-        self.insert_down_to(1, tokens.len() as u16)?;
+        // END is of use at the bottom, whatever stands above.
+        self.pop_down_to(1, tokens.len() as u16)?;
         Ok(tokens.len())
     }
 
@@ -76,10 +76,16 @@ impl State<'_> {
         }
     }
 
-    /// Insert moves for all symbols above a height.
-    pub(super) fn insert_down_to(&mut self, height: usize, place: u16) -> Result<(), Refusal> {
+    /// A move for each symbol above a height: a drop where it can be empty, by request (ii), else an
+    /// insert.
+    pub(super) fn pop_down_to(&mut self, height: usize, place: u16) -> Result<(), Refusal> {
         while self.top.height() > height {
-            self.record(INSERT, place, self.top.symbol() as u16)?;
+            let symbol = self.top.symbol();
+            if self.tables.empty[symbol] == 0 {
+                self.record(INSERT, place, symbol as u16)?;
+            } else {
+                self.moves += 1;
+            }
             self.top.down(&self.stack);
         }
         Ok(())

@@ -1,16 +1,13 @@
 -- Edit records in the buffer: "an edit record is three u16 words: kind (1 delete, 2 insert), place, symbol".
-use Prim.Native.Nat.{ℕ, suc, _+_, _-_, _*_, _≤_, _<_, _^_}
-use mathlib.Core.Path.{_≡_, refl, sym, ap, _∙_, subst}
-use mathlib.Core.List.{List, [], _∷_, _++_, append-assoc, append-nil}
+use Prim.Native.Nat.{ℕ, suc, _+_, _*_, _≤_, _<_, _^_}
+use mathlib.Core.Path.{_≡_, refl, ap, _∙_}
+use mathlib.Core.List.{List, [], _∷_, _++_, append-assoc}
 use native.Mathlib.Omega.{arith}
 use lib.ListN.{length, getD, take, set, length-set}
 use lib.Seq.{take-suc, take-suc-set, length-take-le}
 use Rattle.grammar.specs.Moves.{Move, Edit, edits, editWords}
-use Rattle.grammar.specs.Run.{deletes, inserts}
+use Rattle.grammar.specs.Run.{deletes}
 use Rattle.grammar.specs.theory.Folds.{edits-append}
-use Rattle.moves.specs.Pile.{pile, pile-length, pile-at}
-use Rattle.moves.specs.States.{CanCount, insertedBy}
-use Rattle.moves.specs.declared.Parser.{Parser}
 
 -- ---- One record
 
@@ -65,7 +62,7 @@ recorded-whole before records kind place symbol l =
           ∙ three before (3 * records) kind place symbol l;
     }
 
--- ---- The words of deletes and inserts, one more at a time
+-- ---- The words of deletes, one more at a time
 
 words-append : (es fs : List Edit) → editWords (es ++ fs) ≡ editWords es ++ editWords fs
 unfolding editWords
@@ -87,11 +84,6 @@ deletes-append p (t ∷ ts) us =
     let e : p + 1 + length ts ≡ p + length (t ∷ ts) = omega arith in
     ap (λ l. Move.delete p t ∷ l) (deletes-append (p + 1) ts us ∙ ap (λ q. deletes (p + 1) ts ++ deletes q us) e)
 
-inserts-append : (r : ℕ) (xs ys : List ℕ) → inserts r (xs ++ ys) ≡ inserts r xs ++ inserts r ys
-unfolding inserts
-inserts-append r [] ys = refl
-inserts-append r (x ∷ xs) ys = ap (λ l. Move.insert r x ∷ l) (inserts-append r xs ys)
-
 pub words-delete : (p j : ℕ) (ρ : List ℕ) → j < length ρ
     → wordsOf (deletes p (take (j + 1) ρ)) ≡ wordsOf (deletes p (take j ρ)) ++ (1 ∷ (p + j) ∷ getD ρ j 0 ∷ [])
 unfolding wordsOf edits editWords deletes
@@ -107,86 +99,3 @@ words-delete p j ρ l =
   where
     one : (q t : ℕ) → wordsOf (deletes q (t ∷ [])) ≡ 1 ∷ q ∷ t ∷ []
     one q t = refl
-
-pub words-insert : (r k : ℕ) (σ : List ℕ) → k < length σ
-    → wordsOf (inserts r (take (k + 1) σ)) ≡ wordsOf (inserts r (take k σ)) ++ (2 ∷ r ∷ getD σ k 0 ∷ [])
-unfolding wordsOf edits editWords inserts
-words-insert r k σ l =
-    let e : k + 1 ≡ suc k = omega arith in
-    ap (λ n. wordsOf (inserts r (take n σ))) e
-    ∙ ap (λ n. wordsOf (inserts r n)) (take-suc σ k 0 l)
-    ∙ ap wordsOf (inserts-append r (take k σ) (getD σ k 0 ∷ []))
-    ∙ words-moves (inserts r (take k σ)) (inserts r (getD σ k 0 ∷ []))
-    ∙ ap (λ w. wordsOf (inserts r (take k σ)) ++ w) (one (getD σ k 0))
-  where
-    one : (x : ℕ) → wordsOf (inserts r (x ∷ [])) ≡ 2 ∷ r ∷ x ∷ []
-    one x = refl
-
--- ---- Inserts
-
-pub record CanInsert (stack : List ℕ) (p : Parser) (r i : ℕ) : Type 0 where
-  pub cells : p .height ≤ length stack
-  pub within : i ≤ p .height
-  pub place-fits : r < 65536
-  pub room : p .moves + i < 2 ^ 64
-  pub count : 3 * (p .records + i) + 3 < 2 ^ 64
-  pub counts : CanCount p
-
--- From p the k topmost symbols were inserted at place r, which leads to q and, where the records fit, leaves their words.
-pub record Inserted (stack before : List ℕ) (p : Parser) (r k : ℕ) (q : Parser) (after : List ℕ) : Type 0 where
-  pub place : q .place ≡ p .place
-  pub height : q .height + k ≡ p .height
-  pub moves : q .moves ≡ p .moves + k
-  pub records : q .records ≡ p .records + k
-  pub listed : q .listed ≡ p .listed
-  pub size : length after ≡ length before
-  pub front : 3 * (p .records + k) ≤ length before
-      → take (3 * (p .records + k)) after ≡ take (3 * p .records) before ++ wordsOf (inserts r (take k (pile stack (p .height))))
-
-pub inserted-none : (stack before : List ℕ) (p : Parser) (r : ℕ) → Inserted stack before p r 0 p before
-unfolding wordsOf inserts edits editWords
-inserted-none stack before p r =
-    let e : 3 * (p .records + 0) ≡ 3 * p .records = omega arith in
-    record {
-      place = refl;
-      height = omega arith;
-      moves = omega arith;
-      records = omega arith;
-      listed = refl;
-      size = refl;
-      front = λ h. ap (λ n. take n before) e ∙ sym (append-nil (take (3 * p .records) before));
-    }
-
-pub inserted-more : (stack before : List ℕ) (p : Parser) (r k : ℕ) (q u : Parser) (after last : List ℕ) → k < p .height
-    → Inserted stack before p r k q after → u ≡ insertedBy q → Recorded after (q .records) 2 r (getD stack (q .height - 1) 0) last
-    → Inserted stack before p r (k + 1) u last
-inserted-more stack before p r k q u after last l w e z =
-    subst (λ v. Inserted stack before p r (k + 1) v last) (sym e)
-    (record {
-      place = w .place;
-      height = omega (arith, w .height);
-      moves = omega (arith, w .moves);
-      records = omega (arith, w .records);
-      listed = w .listed;
-      size = z .size ∙ w .size;
-      front = λ h.
-          let n : q .records ≡ p .records + k = w .records in
-          let c : q .height - 1 ≡ p .height - (k + 1) = omega (arith, w .height) in
-          let m : 3 * (p .records + (k + 1)) ≡ 3 * (q .records + 1) = omega arith in
-          let symbol : getD stack (q .height - 1) 0 ≡ getD (pile stack (p .height)) k 0 =
-          ap (λ j. getD stack j 0) c ∙ sym (pile-at stack (p .height) k l) in
-          let old : take (3 * q .records) after ≡ take (3 * p .records) before ++ wordsOf (inserts r (take k (pile stack (p .height)))) =
-          ap (λ j. take (3 * j) after) n ∙ w .front (omega arith) in
-          ap (λ j. take j last) m
-          ∙ z .front (omega (arith, w .size))
-          ∙ ap (λ t. t ++ (2 ∷ r ∷ getD stack (q .height - 1) 0 ∷ [])) old
-          ∙ append-assoc (take (3 * p .records) before) (wordsOf (inserts r (take k (pile stack (p .height)))))
-          (2 ∷ r ∷ getD stack (q .height - 1) 0 ∷ [])
-          ∙ ap (λ x. take (3 * p .records) before ++ (wordsOf (inserts r (take k (pile stack (p .height)))) ++ (2 ∷ r ∷ x ∷ []))) symbol
-          ∙ ap (λ t. take (3 * p .records) before ++ t)
-          (sym (words-insert r k (pile stack (p .height)) (omega (arith, pile-length stack (p .height)))));
-    })
-
-pub inserted-all : {stack before after : List ℕ} {p q : Parser} {r k i : ℕ} → k ≡ i → Inserted stack before p r k q after
-    → Inserted stack before p r i q after
-inserted-all {stack} {before} {after} {p} {q} {r} e w = subst (λ n. Inserted stack before p r n q after) e w

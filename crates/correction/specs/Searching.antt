@@ -1,4 +1,4 @@
--- One walk down the stack decides a token: whether a correction can use it, and by inserting how many symbols.
+-- One walk down the stack decides a token: whether a correction can use it, and by popping how many symbols.
 use Prim.Native.Nat.{ℕ, zero, suc, _+_, _-_, _*_, _≤_, _<_}
 use mathlib.Core.Path.{_≡_, refl, sym, ap, _∙_, subst}
 use mathlib.Core.Bool.{Bool, true, false, true≢false}
@@ -29,7 +29,7 @@ pub record CanSearch (S : Sized) (log masks prices stack : List ℕ) (height : �
   pub cells : height ≤ length stack
   pub low : height ≤ 256
 
--- Token t can be used where the i topmost symbols are inserted, and not with fewer.
+-- Token t can be used where the i topmost symbols are popped, and not with fewer.
 pub record Used (S : Sized) (σ : List ℕ) (t i : ℕ) : Type 0 where
   pub plausible : Plausible (S .grammar) σ t i
   pub least : (k : ℕ) → k < i → Plausible (S .grammar) σ t k → ⊥
@@ -75,7 +75,7 @@ paid-bound prices σ a zero = omega arith
 paid-bound prices [] a (suc i) = omega arith
 paid-bound prices (X ∷ σ) (All.also h a) (suc i) = omega (arith, h, paid-bound prices σ a i)
 
-all-take : {P : ℕ → Type 0} (i : ℕ) {α : List ℕ} → All P α → All P (take i α)
+pub all-take : {P : ℕ → Type 0} (i : ℕ) {α : List ℕ} → All P α → All P (take i α)
 all-take zero a = All.nothing
 all-take (suc i) All.nothing = All.nothing
 all-take (suc i) (All.also h a) = All.also h (all-take i a)

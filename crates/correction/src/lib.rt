@@ -1,12 +1,13 @@
-// A correction: the least r, then the least i, with its deletes and inserts. Document 01, "Moves".
+// A correction: the least r, then the least i, with its deletes, drops and inserts. Document 01, "Moves", and request (ii) of 02.
 ghost use mathlib.Core.Path.{_≡_};
 ghost use Prim.Native.Nat.{_+_, _-_, _*_, _≤_, _<_, _^_};
 ghost use lib.ListN.{length, getD};
 ghost use Rattle.grammar.specs.theory.Tables.{sizedOf};
 ghost use Rattle.moves.specs.Pile.{pile};
 ghost use Rattle.correction.specs.Searching.{CanSearch, SearchOf};
-ghost use Rattle.correction.specs.Records.{CanRecord, Recorded, CanInsert, Inserted};
-ghost use Rattle.correction.specs.Correcting.{CanCorrect, CorrectedOf};
+ghost use Rattle.correction.specs.Records.{CanRecord, Recorded};
+ghost use Rattle.correction.specs.Popping.{CanPop, PoppedOf};
+ghost use Rattle.correction.specs.Corrections.{CanCorrect, CorrectedOf};
 use moves::Parser;
 
 // The token at a place: "behind [the log] stands END".
@@ -25,7 +26,7 @@ enum Search {
 // Where the table of prices has what a cost must stay below for each token, behind the costs of 128 symbols.
 const LIMITS: usize = 128;
 
-// Whether the token at place r can be used, and by inserting how many symbols: one walk down the stack, as far as the cost
+// Whether the token at place r can be used, and by popping how many symbols: one walk down the stack, as far as the cost
 // stays below the token's reliability. The contract alone reads the words.
 fn seek(
     words: &[u16],
@@ -70,17 +71,22 @@ fn write_record(edits: &mut [u16], records: usize, kind: u16, place: usize, symb
     }
 }
 
-// Inserts the i topmost symbols before place r, top first.
-fn insert(stack: &[u16], edits: &mut [u16], p: Parser, r: usize, i: usize) -> Parser
-    requires { ⌜ CanInsert (now stack) p r i ⌝ }
-    ensures { λ q. ⌜ Inserted (now (stack .entry)) (now (edits .entry)) p r i q (now (edits .exit)) ⌝ }
+// Pops the i topmost symbols, top first. "A popped symbol that can be empty becomes a drop move, with no edit record"; any other is
+// inserted before place r.
+fn pop(masks: &[u64], stack: &[u16], edits: &mut [u16], p: Parser, r: usize, i: usize) -> Parser
+    requires { ⌜ CanPop (now masks) (now stack) p r i ⌝ }
+    ensures { λ q. ⌜ PoppedOf (now (masks .entry)) (now (stack .entry)) (now (edits .entry)) p r i q (now (edits .exit)) ⌝ }
 {
     let mut q = p;
     let mut k = 0;
     while k < i {
-        let at = q.height - 1;
-        write_record(edits, q.records, 2, r, stack[at]);
-        q = q.inserted();
+        let symbol = stack[q.height - 1];
+        if moves::empty(masks, symbol) {
+            q = q.dropped();
+        } else {
+            write_record(edits, q.records, 2, r, symbol);
+            q = q.inserted();
+        }
         k += 1;
     }
     q
@@ -92,8 +98,8 @@ pub enum Corrected {
     Full,
 }
 
-// "Take the least place r .. for that r take the least i. Each token from the current place to r-1 is a delete move. Each of
-// A1..Ai-1, top first, is an insert move."
+// "Take the least place r .. for that r take the least i. Each token from the current place to r-1 is a delete move." Each of
+// A1..Ai-1, top first, is a drop move or an insert move. One of its records does not fit exactly where the last does not.
 pub fn correct(
     words: &[u16],
     log: &[u16],
@@ -114,9 +120,10 @@ pub fn correct(
             q = q.deleted();
             continue;
         };
-        if edits.len() < 3 * (q.records + i) {
+        let u = pop(masks, stack, edits, q, r, i);
+        if edits.len() < 3 * u.records {
             return Corrected::Full;
         }
-        return Corrected::On(insert(stack, edits, q, r, i));
+        return Corrected::On(u);
     }
 }

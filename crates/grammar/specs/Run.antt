@@ -1,5 +1,5 @@
--- Document 01, "Moves" and refusals 10 to 12: the run of a log, and what the parser answers and leaves.
--- The run is one decision, repeated; a correction is one decision with all its deletes and inserts.
+-- Document 01, "Moves" and refusals 10 to 12: the run of a log, and what the parser answers and leaves; with request (ii) of 02.
+-- The run is one decision, repeated; a correction is one decision with all its deletes, drops and inserts.
 use Prim.Native.Nat.{ℕ, _+_, _*_, _≤_, _<_}
 use mathlib.Core.Path.{_≡_}
 use mathlib.Core.Bool.{cond}
@@ -8,7 +8,7 @@ use mathlib.Core.Option.{Option, none, some}
 use lib.ListN.{length, getD, take, drop}
 use lib.Dec.{leb, ltb}
 use Rattle.grammar.specs.Words.{END, terminalCount}
-use Rattle.grammar.specs.Derivation.{First}
+use Rattle.grammar.specs.Derivation.{Rules, First, CanBeEmpty}
 use Rattle.grammar.specs.Cost.{ListCost}
 use Rattle.grammar.specs.Grammar.{Grammar, grammarOf, grammarConditions}
 use Rattle.grammar.specs.Buffers.{filled, cleared}
@@ -18,9 +18,9 @@ use Rattle.grammar.specs.declared.Refusal.{Refusal}
 use Rattle.grammar.specs.declared.Counts.{Counts}
 use Rattle.grammar.specs.declared.Refusal.the-variants.{BadLog, StackFull, NoRoom}
 
--- ---- The search: places are counted from 0, so i symbols stand above A(i+1), and those are the ones inserted.
+-- ---- The search: places are counted from 0, so i symbols stand above A(i+1), and those are the ones popped.
 
--- A correction at token t that inserts the i topmost symbols is plausible: t is in FIRST of the symbol below them, and
+-- A correction at token t that pops the i topmost symbols is plausible: t is in FIRST of the symbol below them, and
 -- their cost is strictly below t's reliability.
 pub record Plausible (G : Grammar) (stack : List ℕ) (t i : ℕ) : Type 0 where
   pub within : i < length stack
@@ -37,6 +37,21 @@ pub record Hit (G : Grammar) (stack rest : List ℕ) (j i : ℕ) : Type 0 where
   pub least-r : (h k : ℕ) → h < j → Plausible G stack (getD rest h END) k → ⊥
   pub least-i : (k : ℕ) → k < i → Plausible G stack (getD rest j END) k → ⊥
 
+-- ---- What a correction pops
+
+-- 01: "Each of A1..Ai-1, top first, is an insert move, one pop each." Request (ii) of 02 overrules it: "A popped symbol that can be
+-- empty becomes a drop move, with no edit record."
+pub data Pop : Type 0 where
+  dropped : (X : ℕ) → Pop
+  inserted : (X : ℕ) → Pop
+
+-- What each of the symbols becomes: "can be empty" is that it derives the empty form.
+pub data Popped (R : Rules) : List ℕ → List Pop → Type 0 where
+  nothing : Popped R [] []
+  empty : {X : ℕ} {Xs : List ℕ} {ps : List Pop} → CanBeEmpty R (X ∷ []) → Popped R Xs ps → Popped R (X ∷ Xs) (Pop.dropped X ∷ ps)
+  missing : {X : ℕ} {Xs : List ℕ} {ps : List Pop} → (CanBeEmpty R (X ∷ []) → ⊥) → Popped R Xs ps
+      → Popped R (X ∷ Xs) (Pop.inserted X ∷ ps)
+
 -- ---- The choice of move: "one decision over all cases of top and token"
 
 pub data Pick : Type 0 where
@@ -46,8 +61,8 @@ pub data Pick : Type 0 where
   expanding : (p : ℕ) (β : List ℕ) → Pick
   -- drop the top
   dropping : Pick
-  -- delete j tokens and insert i symbols
-  correcting : (j i : ℕ) → Pick
+  -- delete j tokens and pop i symbols, of which each is dropped or inserted
+  correcting : (j i : ℕ) (ps : List Pop) → Pick
 
 -- The choice at a stack and the rest of the log, whose first token t is the current one. In the first two t is in FIRST
 -- of the whole stack by itself; the third says so; the fourth says that it is not: "t is in error and nothing has moved
@@ -62,8 +77,8 @@ pub data Choice (G : Grammar) : List ℕ → List ℕ → Pick → Type 0 where
   pass : {X t : ℕ} {σ rest : List ℕ} → First (G .rules) (X ∷ σ) t → (First (G .rules) (X ∷ []) t → ⊥)
       → Choice G (X ∷ σ) (t ∷ rest) dropping
   -- "Otherwise t is in error": the hit with the least r, then the least i.
-  correct : {t j i : ℕ} {σ rest : List ℕ} → (First (G .rules) σ t → ⊥) → Hit G σ (t ∷ rest) j i
-      → Choice G σ (t ∷ rest) (correcting j i)
+  correct : {t j i : ℕ} {σ rest : List ℕ} {ps : List Pop} → (First (G .rules) σ t → ⊥) → Hit G σ (t ∷ rest) j i
+      → Popped (G .rules) (take i σ) ps → Choice G σ (t ∷ rest) (correcting j i ps)
 
 -- ---- What a choice does
 
@@ -85,17 +100,18 @@ unfoldable pub deletes : ℕ → List ℕ → List Move
 deletes p [] = []
 deletes p (t ∷ ts) = Move.delete p t ∷ deletes (p + 1) ts
 
--- "Each of A1..Ai-1, top first, is an insert move", which names r.
-unfoldable pub inserts : ℕ → List ℕ → List Move
-inserts r [] = []
-inserts r (X ∷ Xs) = Move.insert r X ∷ inserts r Xs
+-- Each of A1..Ai-1, top first: a drop move names its symbol, an insert move names r too.
+unfoldable pub pops : ℕ → List Pop → List Move
+pops r [] = []
+pops r (Pop.dropped X ∷ ps) = Move.drop X ∷ pops r ps
+pops r (Pop.inserted X ∷ ps) = Move.insert r X ∷ pops r ps
 
 -- The moves that a choice makes.
 unfoldable pub made : State → Pick → List Move
 made s matching = Move.match (s .place) (getD (s .rest) 0 END) ∷ []
 made s (expanding p β) = Move.expand p ∷ []
 made s dropping = Move.drop (getD (s .stack) 0 END) ∷ []
-made s (correcting j i) = deletes (s .place) (take j (s .rest)) ++ inserts (s .place + j) (take i (s .stack))
+made s (correcting j i ps) = deletes (s .place) (take j (s .rest)) ++ pops (s .place + j) ps
 
 -- A state with another stack, place and rest, in which what the moves list is counted.
 abbrev pub counting : State → List Move → List ℕ → ℕ → List ℕ → State
@@ -108,7 +124,7 @@ unfoldable pub next : State → Pick → State
 next s matching = counting s (made s matching) (tail (s .stack)) (s .place + 1) (tail (s .rest))
 next s (expanding p β) = counting s (made s (expanding p β)) (β ++ tail (s .stack)) (s .place) (s .rest)
 next s dropping = counting s (made s dropping) (tail (s .stack)) (s .place) (s .rest)
-next s (correcting j i) = counting s (made s (correcting j i)) (drop i (s .stack)) (s .place + j) (drop j (s .rest))
+next s (correcting j i ps) = counting s (made s (correcting j i ps)) (drop i (s .stack)) (s .place + j) (drop j (s .rest))
 
 -- What bounds a run: the most symbols on the stack, and the lengths of the edit buffer and the rule buffer in words.
 pub record Limits : Type 0 where
@@ -125,7 +141,7 @@ limit L s (expanding p β) =
     cond (ltb (L .height) (length (next s (expanding p β) .stack))) (some StackFull)
     (cond (leb (next s (expanding p β) .listed) (L .ruleRoom)) none (some NoRoom))
 limit L s dropping = none
-limit L s (correcting j i) = cond (leb (3 * next s (correcting j i) .records) (L .editRoom)) none (some NoRoom)
+limit L s (correcting j i ps) = cond (leb (3 * next s (correcting j i ps) .records) (L .editRoom)) none (some NoRoom)
 
 -- ---- The run
 

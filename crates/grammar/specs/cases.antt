@@ -1,4 +1,5 @@
 -- Document 01's twelve cases: one list, one theorem.
+pub mod Case
 pub mod Cases
 pub mod Compared
 pub mod Twelve

@@ -27,13 +27,14 @@ pub mod Good
 pub mod Forms
 pub mod Predictive
 pub mod Leads
+pub mod Folds
+pub mod Pops
 pub mod Chosen
 pub mod Token
 pub mod States
 pub mod Determined
 pub mod Cycles
 pub mod Answers
-pub mod Folds
 pub mod Repaired
 pub mod Filled
 pub mod Correct
@@ -46,6 +47,8 @@ pub mod Exists
 pub mod Heights
 pub mod Decided
 pub mod Places
+pub mod Earlier
+pub mod SameCycles
 pub mod Rebuilt
 pub mod Kept
 pub mod Told

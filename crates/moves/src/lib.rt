@@ -71,7 +71,7 @@ impl Parser {
     }
 
     // Drop: "one pop, nothing listed".
-    fn dropped(mut self) -> Self
+    pub fn dropped(mut self) -> Self
         requires { ⌜ CanCount self × (1 ≤ self .height) ⌝ }
         ensures { λ r. ⌜ r ≡ droppedBy self ⌝ }
     {
@@ -150,7 +150,7 @@ pub fn begins(masks: &[u64], symbol: u16, t: u16) -> bool
 }
 
 // The symbol can be empty.
-fn empty(masks: &[u64], symbol: u16) -> bool
+pub fn empty(masks: &[u64], symbol: u16) -> bool
     requires { ⌜ (symbol < 128) × (65 ≤ length (now masks)) ⌝ }
     ensures { λ r. ⌜ r ≡ emptyBy (now (masks .entry)) symbol ⌝ }
 {

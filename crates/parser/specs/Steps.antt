@@ -10,10 +10,10 @@ use borrow.Author.Tests.{le-leb, lt-leb}
 use Rattle.grammar.specs.Words.{END}
 use Rattle.grammar.specs.Derivation.{First}
 use Rattle.grammar.specs.Moves.{edits, editWords, ruleNumbers}
-use Rattle.grammar.specs.Run.{Choice, Hit, matching, expanding, dropping, correcting, next, made, limit, deletes, inserts}
+use Rattle.grammar.specs.Run.{Pop, Pick, Choice, Hit, matching, expanding, dropping, correcting, next, made, limit, deletes, pops}
 use Rattle.grammar.specs.declared.Refusal.{Refusal}
 use Rattle.grammar.specs.declared.Refusal.the-variants.{NoRoom}
-use Rattle.grammar.specs.theory.Bounded.{correction-length}
+use Rattle.grammar.specs.theory.Bounded.{popped-count, correction-length}
 use Rattle.grammar.specs.theory.Counted.{next-records}
 use Rattle.grammar.specs.theory.Folds.{edits-correction, rules-correction}
 use Rattle.grammar.specs.theory.Tables.{Sized}
@@ -23,7 +23,7 @@ use Rattle.moves.specs.Ways.{Passed, Dropped}
 use Rattle.moves.specs.declared.Parser.{Parser}
 use Rattle.correction.specs.Tokens.{restOf}
 use Rattle.correction.specs.Records.{wordsOf}
-use Rattle.correction.specs.Correcting.{Correction, Made}
+use Rattle.correction.specs.Corrections.{Correction, recordCount, Made}
 use Rattle.parser.specs.Expanding.{Ruled, Expanded, expandLimit}
 use Rattle.parser.specs.Reached.{
   Setting,
@@ -41,9 +41,9 @@ use Rattle.parser.specs.Reached.{
 use Rattle.parser.specs.Down.{choice-at, passed-not, passed-first}
 
 -- A correction lists no rule number.
-no-rules : (p r : ℕ) (ts Xs : List ℕ) → ruleNumbers (deletes p ts ++ inserts r Xs) ≡ []
+no-rules : (p r : ℕ) (ts : List ℕ) (ps : List Pop) → ruleNumbers (deletes p ts ++ pops r ps) ≡ []
 unfolding ruleNumbers
-no-rules p r ts Xs = ap ruleNumbers (sym (append-nil (deletes p ts ++ inserts r Xs))) ∙ rules-correction p r ts Xs []
+no-rules p r ts ps = ap ruleNumbers (sym (append-nil (deletes p ts ++ pops r ps))) ∙ rules-correction p r ts ps []
 
 module _ {S : Sized} {log : List ℕ} {editRoom ruleRoom : ℕ} {stack edits₀ rules : List ℕ} {p : Parser}
     (r : Reached S log editRoom ruleRoom stack edits₀ rules p) (some-left : 0 < p .height) (token-left : p .place ≤ length log) where
@@ -121,63 +121,64 @@ module _ {S : Sized} {log : List ℕ} {editRoom ruleRoom : ℕ} {stack edits₀ 
   -- ---- "Otherwise t is in error."
 
   module _ (error : First (S .grammar .rules) (pile stack (p .height)) (getD log (p .place) 0) → ⊥) (c : Correction S log stack p) where
-    correct-choice : Choice (S .grammar) (pile stack (p .height)) (restOf log (p .place)) (correcting (c .deleted) (c .inserted))
+    pick : Pick
+    pick = correcting (c .deleted) (c .popped) (c .becomes)
+
+    correct-choice : Choice (S .grammar) (pile stack (p .height)) (restOf log (p .place)) pick
+    unfolding pick
     correct-choice =
         let form = rest-form log (p .place) token-left in
         choice-at {σ = pile stack (p .height)} refl form
-        (Choice.correct error (subst (λ ρ. Hit (S .grammar) (pile stack (p .height)) ρ (c .deleted) (c .inserted)) form (c .hit)))
+        (Choice.correct error (subst (λ ρ. Hit (S .grammar) (pile stack (p .height)) ρ (c .deleted) (c .popped)) form (c .hit)) (c .pops))
 
-    corrections : length (edits (made (stateOf log stack p) (correcting (c .deleted) (c .inserted)))) ≡ c .deleted + c .inserted
-    unfolding made edits
+    corrections : length (edits (made (stateOf log stack p) pick)) ≡ recordCount c
+    unfolding made edits pick
     corrections =
         let j = c .deleted in
-        let i = c .inserted in
-        let σ = pile stack (p .height) in
+        let ps = c .becomes in
         let ρ = restOf log (p .place) in
         omega (
           arith,
-          ap (λ ms. length (edits ms)) (append-nil (deletes (p .place) (take j ρ) ++ inserts (p .place + j) (take i σ))),
-          edits-correction (p .place) (p .place + j) (take j ρ) (take i σ) [],
+          ap (λ ms. length (edits ms)) (append-nil (deletes (p .place) (take j ρ) ++ pops (p .place + j) ps)),
+          edits-correction (p .place) (p .place + j) (take j ρ) ps [],
           length-take-le j ρ (omega (arith, c .hit .within)),
-          length-take-le i σ (omega (arith, c .hit .plausible .within)),
         )
 
-    behind : next (stateOf log stack p) (correcting (c .deleted) (c .inserted)) .records ≡ p .records + (c .deleted + c .inserted)
-    behind = omega (arith, next-records (stateOf log stack p) (correcting (c .deleted) (c .inserted)), corrections)
+    behind : next (stateOf log stack p) pick .records ≡ p .records + recordCount c
+    behind = omega (arith, next-records (stateOf log stack p) pick, corrections)
 
-    fit : 3 * (p .records + (c .deleted + c .inserted)) ≤ length edits₀
-        → limit (limitsOf editRoom ruleRoom) (stateOf log stack p) (correcting (c .deleted) (c .inserted)) ≡ none
-    unfolding limit
+    fit : 3 * (p .records + recordCount c) ≤ length edits₀ → limit (limitsOf editRoom ruleRoom) (stateOf log stack p) pick ≡ none
+    unfolding limit pick
     fit l =
-        let n = next (stateOf log stack p) (correcting (c .deleted) (c .inserted)) .records in
+        let n = next (stateOf log stack p) pick .records in
         rw (le-leb (3 * n) editRoom (omega (arith, r .edit-room, behind)))
 
-    unfit : length edits₀ < 3 * (p .records + (c .deleted + c .inserted))
-        → limit (limitsOf editRoom ruleRoom) (stateOf log stack p) (correcting (c .deleted) (c .inserted)) ≡ some NoRoom
-    unfolding limit
+    unfit : length edits₀ < 3 * (p .records + recordCount c)
+        → limit (limitsOf editRoom ruleRoom) (stateOf log stack p) pick ≡ some NoRoom
+    unfolding limit pick
     unfit l =
-        let n = next (stateOf log stack p) (correcting (c .deleted) (c .inserted)) .records in
+        let n = next (stateOf log stack p) pick .records in
         rw (lt-leb (3 * n) editRoom (omega (arith, r .edit-room, behind)))
 
-    pub stopped-correct : length edits₀ < 3 * (p .records + (c .deleted + c .inserted)) → Stopped S log editRoom ruleRoom NoRoom
-    stopped-correct l = reached-stop r (correcting (c .deleted) (c .inserted)) NoRoom correct-choice (unfit l)
+    pub stopped-correct : length edits₀ < 3 * (p .records + recordCount c) → Stopped S log editRoom ruleRoom NoRoom
+    stopped-correct l = reached-stop r pick NoRoom correct-choice (unfit l)
 
-    pub reached-correct : {edits′ : List ℕ} {q : Parser} → Made log stack edits₀ p edits′ (c .deleted) (c .inserted) q
+    pub reached-correct : {edits′ : List ℕ} {q : Parser} → Made S log stack edits₀ p edits′ c q
         → Reached S log editRoom ruleRoom stack edits′ rules q
-    unfolding next made
+    unfolding next made pick
     reached-correct {edits′} {q} w =
         let j = c .deleted in
-        let i = c .inserted in
-        let σ = pile stack (p .height) in
+        let i = c .popped in
+        let ps = c .becomes in
         let ρ = restOf log (p .place) in
-        let h = pile-length stack (p .height) in
         let n : p .height - i ≡ q .height = omega (arith, w .height) in
-        let moves = deletes (p .place) (take j ρ) ++ inserts (p .place + j) (take i σ) in
-        let m : length moves ≡ j + i = correction-length (p .place) j i σ ρ (c .hit .plausible .within) (c .hit .within) in
-        let none-listed : ruleNumbers moves ≡ [] = no-rules (p .place) (p .place + j) (take j ρ) (take i σ) in
-        reached-next r (correcting j i)
+        let moves = deletes (p .place) (take j ρ) ++ pops (p .place + j) ps in
+        let popped = popped-count i (pile stack (p .height)) (c .pops) (c .hit .plausible .within) in
+        let m : length moves ≡ j + i = correction-length (p .place) j i ρ ps popped (c .hit .within) in
+        let none-listed : ruleNumbers moves ≡ [] = no-rules (p .place) (p .place + j) (take j ρ) ps in
+        reached-next r pick
         correct-choice
-        (fit (w .fits))
+        (fit (omega (arith, w .fits, w .records)))
         (same-state
         (pile-drop stack (p .height) i (omega (arith, w .height)) ∙ ap (λ k. pile stack k) n)
         (sym (w .place))
@@ -186,7 +187,7 @@ module _ {S : Sized} {log : List ℕ} {editRoom ruleRoom : ℕ} {stack edits₀ 
         (omega (arith, w .listed, ap length none-listed)))
         (w .moves ∙ ap (λ k. p .moves + k) (sym m))
         refl (w .size) refl
-        (ap (λ k. take (3 * k) edits′) (w .records) ∙ w .front)
+        (w .front)
         (ap (λ k. take k rules) (w .listed) ∙ sym (append-nil (take (p .listed) rules))
         ∙ ap (λ z. take (p .listed) rules ++ z) (sym none-listed))
 

@@ -23,7 +23,7 @@ use Rattle.moves.specs.declared.Way.{Way}
 use Rattle.moves.specs.declared.Way.the-variants.{Fits, Grows, Stuck}
 use Rattle.correction.specs.Tokens.{restOf, rest-token, token-high}
 use Rattle.correction.specs.Symbols.{symbol-small, pile-cell}
-use Rattle.correction.specs.Correcting.{CanCorrect, Correction, CorrectedOf}
+use Rattle.correction.specs.Corrections.{CanCorrect, Correction, CorrectedOf}
 use Rattle.correction.specs.declared.Corrected.{Corrected}
 use Rattle.correction.specs.declared.Corrected.the-variants.{Full}
 use Rattle.correction.specs.declared.Corrected.the-variants as corrected
@@ -240,8 +240,8 @@ module _ {S : Sized} {log masks prices sides rows stack edits rules : List ℕ} 
 
   -- A correction makes some move: a token that fits without one is not in error.
   some-move : (c : Correction S log stack p) → (First (S .grammar .rules) (pile stack (p .height)) (getD log (p .place) 0) → ⊥)
-      → 0 < c .deleted + c .inserted
-  some-move c n = go (c .deleted) (c .inserted) (c .hit)
+      → 0 < c .deleted + c .popped
+  some-move c n = go (c .deleted) (c .popped) (c .hit)
     where
       go : (j i : ℕ) → Hit (S .grammar) (pile stack (p .height)) (restOf log (p .place)) j i → 0 < j + i
       go (suc j) i h = omega arith

@@ -6,17 +6,8 @@ use native.Mathlib.Omega.{arith}
 use mathlib.Core.Path.{sym, _∙_, subst}
 use lib.ListN.{length}
 use Rattle.grammar.specs.theory.Tables.{sizedOf}
-use Rattle.correction.specs.Correcting.{
-  seek-can,
-  record-can,
-  delete-can,
-  insert-can,
-  Deleted,
-  deleted-none,
-  deleted-more,
-  corrected-full,
-  corrected-on,
-}
+use Rattle.correction.specs.Deleting.{Deleted, deleted-none, deleted-more}
+use Rattle.correction.specs.Correcting.{seek-can, record-can, delete-can, pop-can, corrected-full, corrected-on}
 use Rattle.correction.proofs.correct.Statement.{statement}
 use Rattle.correction.proofs.correct.Tie as tie
 
@@ -71,57 +62,55 @@ loop-again c =
     deleted-more (start .pre) (head .loop .inv) (at-seek .seek .ensures) (at-enum-told .enum-told .given .1)
     (c .deleted .ensures) (at-token-at .token-at .ensures) (at-write-record .write-record .ensures)
 
-add-if1 : tie.Need-add-if1 Inv-loop μ-loop
-add-if1 c =
+pop-requires : tie.Need-pop-requires Inv-loop μ-loop
+pop-requires c κs =
     let at-r = c .before .before in
     let at-seek = at-r .before .before in
     let head = at-seek .before in
     let start = head .before .before .before .before .before .before .before in
-    omega (arith, insert-can (start .pre) (head .loop .inv) _ _ (at-seek .seek .ensures) (at-r .r .given .1) .count)
+    pop-can (start .pre) (head .loop .inv) _ _ (at-seek .seek .ensures) (at-r .r .given .1)
 
 mul-if1 : tie.Need-mul-if1 Inv-loop μ-loop
 mul-if1 c =
-    let at-r = c .before .before in
+    let at-pop = c .before .before .before in
+    let at-r = at-pop .before .before .before in
     let at-seek = at-r .before .before in
     let head = at-seek .before in
     let start = head .before .before .before .before .before .before .before in
-    omega (arith, insert-can (start .pre) (head .loop .inv) _ _ (at-seek .seek .ensures) (at-r .r .given .1) .count)
+    omega (
+      arith,
+      pop-can (start .pre) (head .loop .inv) _ _ (at-seek .seek .ensures) (at-r .r .given .1) .count,
+      at-pop .pop .ensures .records,
+      at-pop .pop .ensures .few,
+    )
 
 same-length : tie.Need-same-length Inv-loop μ-loop
-same-length c = c .before .before .before .before .before .before .loop .inv .size
+same-length c =
+    let at-pop = c .before .before .before .before in
+    at-pop .pop .ensures .size ∙ at-pop .before .before .before .before .before .before .loop .inv .size
 
 returns : tie.Need-returns Inv-loop μ-loop
 returns c =
-    let at-r = c .before .before .before in
+    let at-pop = c .before .before .before .before in
+    let at-r = at-pop .before .before .before in
     let at-seek = at-r .before .before in
     let head = at-seek .before in
     let start = head .before .before .before .before .before .before .before in
-    corrected-full (start .pre) (head .loop .inv) _ _ (at-seek .seek .ensures) (at-r .r .given .1) (c .if1 .taken)
-
-insert-requires : tie.Need-insert-requires Inv-loop μ-loop
-insert-requires c κs =
-    let at-r = c .before .before .before .before in
-    let at-seek = at-r .before .before in
-    let head = at-seek .before in
-    let start = head .before .before .before .before .before .before .before in
-    insert-can (start .pre) (head .loop .inv) _ _ (at-seek .seek .ensures) (at-r .r .given .1)
+    corrected-full (start .pre) (head .loop .inv) _ _ (at-seek .seek .ensures) (at-r .r .given .1) (at-pop .pop .ensures) (c .if1 .taken)
 
 same-length-2 : tie.Need-same-length-2 Inv-loop μ-loop
 same-length-2 c =
-    let at-insert = c .before .before in
-    let head = at-insert .before .before .before .before .before .before .before .before in
-    at-insert .insert .ensures .size ∙ head .loop .inv .size
+    let at-pop = c .before .before .before .before in
+    at-pop .pop .ensures .size ∙ at-pop .before .before .before .before .before .before .loop .inv .size
 
 returns-2 : tie.Need-returns-2 Inv-loop μ-loop
 returns-2 c =
-    let at-insert = c .before .before in
-    let at-if1 = at-insert .before .before in
-    let at-r = at-if1 .before .before .before in
+    let at-pop = c .before .before .before .before in
+    let at-r = at-pop .before .before .before in
     let at-seek = at-r .before .before in
     let head = at-seek .before in
     let start = head .before .before .before .before .before .before .before in
-    corrected-on (start .pre) (head .loop .inv) _ _ (at-seek .seek .ensures) (at-r .r .given .1) (at-if1 .if1 .left)
-    (at-insert .insert .ensures)
+    corrected-on (start .pre) (head .loop .inv) _ _ (at-seek .seek .ensures) (at-r .r .given .1) (at-pop .pop .ensures) (c .if1 .left)
 
 pub correct-spec : {M : Type 1} → statement M
 correct-spec =
@@ -138,10 +127,9 @@ correct-spec =
     deleted-requires
     loop-less
     loop-again
-    add-if1
+    pop-requires
     mul-if1
     same-length
     returns
-    insert-requires
     same-length-2
     returns-2)

@@ -12,7 +12,8 @@ use Rattle.grammar.specs.declared.Counts.{Counts}
 use Rattle.grammar.specs.theory.Good.{accepted}
 use Rattle.grammar.specs.theory.Answers.{runs-determined}
 use Rattle.grammar.specs.theory.Kept.{parsed-made}
-use Rattle.grammar.specs.cases.Cases.{Case, Gives, GivesAll, case12, editRoom, ruleRoom}
+use Rattle.grammar.specs.cases.Case.{Case, Gives, GivesAll, editRoom, ruleRoom}
+use Rattle.grammar.specs.cases.Cases.{case12}
 use Rattle.grammar.specs.cases.Twelve.{twelve}
 
 others : {c : Case} {cs : List Case} → GivesAll (c ∷ cs) → GivesAll cs

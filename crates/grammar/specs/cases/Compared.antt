@@ -10,7 +10,7 @@ use Rattle.grammar.specs.Buffers.{filled}
 use Rattle.grammar.specs.Moves.{Move, Edit, edits, editWords, ruleNumbers}
 use Rattle.grammar.specs.Pace.{Span, reportOf, totalMs, paceOf}
 use Rattle.grammar.specs.model.Tests.{left-of, right-of}
-use Rattle.grammar.specs.cases.Cases.{ToldPace, idle, cycles, EditsTold, RulesTold, PaceTold, editRoom, ruleRoom}
+use Rattle.grammar.specs.cases.Case.{ToldPace, idle, cycles, EditsTold, RulesTold, PaceTold, ruleRoom}
 
 unfoldable pub sameList : List ℕ → List ℕ → Bool
 sameList [] [] = true
@@ -40,14 +40,14 @@ paceAgrees none n s = true
 paceAgrees (some idle) n s = eqb n 0
 paceAgrees (some (cycles m u)) n s = eqb n m && eqb s u
 
-pub edits-agree : (o : Option (List Edit)) (ms : List Move) → T (editsAgree o ms)
-    → EditsTold o (length (edits ms)) (filled editRoom (editWords (edits ms)))
+pub edits-agree : (lent : ℕ) (o : Option (List Edit)) (ms : List Move) → T (editsAgree o ms)
+    → EditsTold lent o (length (edits ms)) (filled lent (editWords (edits ms)))
 unfolding editsAgree
-edits-agree none ms h = tt
-edits-agree (some es) ms h = (
+edits-agree lent none ms h = tt
+edits-agree lent (some es) ms h = (
   eqb→eq (length (edits ms)) (length es)
       (left-of (eqb (length (edits ms)) (length es)) (sameList (editWords (edits ms)) (editWords es)) h),
-  ap (filled editRoom)
+  ap (filled lent)
       (same-list (editWords (edits ms)) (editWords es)
       (right-of (eqb (length (edits ms)) (length es)) (sameList (editWords (edits ms)) (editWords es)) h)),
 )

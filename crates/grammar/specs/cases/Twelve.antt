@@ -1,5 +1,5 @@
--- The twelve cases: the definitions give each of them. The model runs each case, and its answer is compared with the
--- table's; where that test passes, the definitions give the case.
+-- The twelve cases and those of request (ii): the definitions give each of them. The model runs each case, and its answer is compared
+-- with the table's; where that test passes, the definitions give the case.
 use Prim.Native.Nat.{ℕ}
 use mathlib.Core.Path.{_≡_, refl}
 use mathlib.Core.Bool.{Bool, true, false, _&&_}
@@ -25,7 +25,8 @@ use Rattle.grammar.specs.cases.Compared.{
   rules-agree,
   pace-agrees,
 }
-use Rattle.grammar.specs.cases.Cases.{Case, Expected, result, refuses, editRoom, ruleRoom, GivesAs, Gives, GivesAll, cases}
+use Rattle.grammar.specs.cases.Case.{Case, Expected, result, refuses, ruleRoom, GivesAs, Gives, GivesAll}
+use Rattle.grammar.specs.cases.Cases.{cases}
 
 -- ---- A case that passes is given
 
@@ -56,15 +57,15 @@ module _ (c : Case) where
   unfolding agreed outcomeOf fitsLog
   passes =
       eqb (length (c .ticks)) (length (c .log))
-      && agreed (outcomeOf (c .words) (c .log) editRoom ruleRoom (fitsLog (c .words) (c .log)))
+      && agreed (outcomeOf (c .words) (c .log) (c .lent) ruleRoom (fitsLog (c .words) (c .log)))
 
   -- What the log comes to, whatever else is asked under refusal 10 and holds.
   Came : Outcome (List Move) → Type 1
   Came o = (Asked : Type 0) → Asked
-      → Parses Asked (c .words) (c .log) editRoom ruleRoom o (left (λ ms. editWords (edits ms)) editRoom o) (left ruleNumbers ruleRoom o)
+      → Parses Asked (c .words) (c .log) (c .lent) ruleRoom o (left (λ ms. editWords (edits ms)) (c .lent) o) (left ruleNumbers ruleRoom o)
 
   parsed : (o : Outcome (List Move)) → Came o
-      → Parsed (c .words) (c .log) editRoom ruleRoom (answered o) (left (λ ms. editWords (edits ms)) editRoom o)
+      → Parsed (c .words) (c .log) (c .lent) ruleRoom (answered o) (left (λ ms. editWords (edits ms)) (c .lent) o)
       (left ruleNumbers ruleRoom o)
   unfolding Came
   parsed o k = record { outcome = o; parses = k (Unit {0}) tt; answers = refl }
@@ -84,7 +85,7 @@ module _ (c : Case) where
       record {
         counts = countsOf ms;
         report = reportOf (tickUnit (c .words)) (c .ticks) cs;
-        editBuffer = filled editRoom (editWords (edits ms));
+        editBuffer = filled (c .lent) (editWords (edits ms));
         ruleBuffer = filled ruleRoom (ruleNumbers ms);
         parsed = parsed (given ms) k;
         reported = record {
@@ -93,7 +94,7 @@ module _ (c : Case) where
           reports = Reports.paced (clean-cycles (opening (c .words)) (closing (c .words)) ms (left-of f g last));
         };
         moves = eqb→eq (length ms) (told .moves) (left-of a b front);
-        edits = edits-agree (told .edits) ms (right-of a b front);
+        edits = edits-agree (c .lent) (told .edits) ms (right-of a b front);
         rules = rules-agree (told .rules) ms (left-of d (f && g) back);
         pace = pace-agrees (told .pace) (tickUnit (c .words)) (c .ticks) cs (right-of f g last);
       }
@@ -108,8 +109,8 @@ module _ (c : Case) where
   -- The model's test passes: the definitions give the case.
   passes-gives : T passes → Gives c
   unfolding passes Came
-  passes-gives h = go (outcomeOf ws log editRoom ruleRoom (fitsLog ws log)) refl (right-of same (agreed
-      (outcomeOf ws log editRoom ruleRoom (fitsLog ws log))) h)
+  passes-gives h = go (outcomeOf ws log (c .lent) ruleRoom (fitsLog ws log)) refl (right-of same (agreed
+      (outcomeOf ws log (c .lent) ruleRoom (fitsLog ws log))) h)
     where
       ws : List ℕ
       ws = c .words
@@ -121,15 +122,15 @@ module _ (c : Case) where
       same = eqb (length (c .ticks)) (length (c .log))
 
       ticked : length (c .ticks) ≡ length (c .log)
-      ticked = eqb→eq (length (c .ticks)) (length log) (left-of same (agreed (outcomeOf ws log editRoom ruleRoom (fitsLog ws log))) h)
+      ticked = eqb→eq (length (c .ticks)) (length log) (left-of same (agreed (outcomeOf ws log (c .lent) ruleRoom (fitsLog ws log))) h)
 
-      go : (o : Option (Outcome (List Move))) → outcomeOf ws log editRoom ruleRoom (fitsLog ws log) ≡ o → T (agreed o) → Gives c
+      go : (o : Option (Outcome (List Move))) → outcomeOf ws log (c .lent) ruleRoom (fitsLog ws log) ≡ o → T (agreed o) → Gives c
       go (some o) e k =
           agrees-gives (c .expected) o ticked
           (λ Asked a.
           record {
             settled =
-                settled ws log editRoom ruleRoom Asked o (fitsLog ws log)
+                settled ws log (c .lent) ruleRoom Asked o (fitsLog ws log)
                 (iff-test (log-test ws log) (λ f. (f, a)) (λ f. f .0)) e;
             leaves-edits = refl;
             leaves-rules = refl;
@@ -149,7 +150,7 @@ all-given [] h = GivesAll.nothing
 all-given (c ∷ cs) h =
     GivesAll.also (passes-gives c (left-of (passes c) (allPass cs) h)) (all-given cs (right-of (passes c) (allPass cs) h))
 
--- The definitions give each of document 01's twelve cases.
+-- The definitions give each of document 01's twelve cases, and each of request (ii)'s.
 pub twelve : GivesAll cases
 unfolding allPass
 twelve = all-given cases tt

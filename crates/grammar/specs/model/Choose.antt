@@ -4,13 +4,15 @@ use mathlib.Core.Path.{_≡_, refl, sym, subst}
 use mathlib.Core.Bool.{Bool, true, false, _&&_, cond}
 use mathlib.Core.Option.{Option, none, some}
 use mathlib.Core.List.{List, [], _∷_}
-use mathlib.Core.Logic.{⊎-elim}
+use mathlib.Core.Logic.{_↔_, ⊎-elim}
+use lib.ListN.{take}
 use lib.Dec.{T, eqb, eqb→eq}
 use Rattle.grammar.specs.Words.{Terminal}
-use Rattle.grammar.specs.Derivation.{All, First}
+use Rattle.grammar.specs.Derivation.{All, First, CanBeEmpty}
 use Rattle.grammar.specs.Cost.{SymbolCost}
 use Rattle.grammar.specs.Grammar.{Grammar}
 use Rattle.grammar.specs.Run.{Pick, matching, expanding, dropping, correcting, Choice}
+use Rattle.grammar.specs.theory.Pops.{popBy, popsBy, popped-by}
 use Rattle.grammar.specs.model.Tests.{none-some, some-same, both, left-of, right-of, equal-passes}
 use Rattle.grammar.specs.model.Ruled.{Rule, RuleAt}
 use Rattle.grammar.specs.model.Decided.{Tests, Decided, first-symbol}
@@ -63,14 +65,15 @@ module _ (D : Tests) (X t : ℕ) where
 
 -- ---- The choice
 
-unfoldable pub byHit : Option Place → Option Pick
-byHit none = none
-byHit (some p) = some (correcting (p .deleted) (p .inserted))
+unfoldable pub byHit : Tests → List ℕ → Option Place → Option Pick
+unfolding popsBy popBy
+byHit D σ none = none
+byHit D σ (some p) = some (correcting (p .deleted) (p .popped) (popsBy (D .empty) (take (p .popped) σ)))
 
 unfoldable pub byRest : Tests → List ℕ → List ℕ → Bool → Option Pick
 unfolding byHit seek
 byRest D σ rest true = some dropping
-byRest D σ rest false = byHit (seek D σ rest)
+byRest D σ rest false = byHit D σ (seek D σ rest)
 
 unfoldable pub byRule : Tests → List ℕ → List ℕ → ℕ → Option Numbered → Option Pick
 unfolding byRest
@@ -94,10 +97,16 @@ module _
   token : {u : ℕ} {us : List ℕ} → All Terminal (u ∷ us) → Terminal u
   token (All.also l a) = l
 
-  by-hit : {x : Pick} → (First (G .rules) (X ∷ σ) t → ⊥) → (o : Option Place) → Sought D d (X ∷ σ) known (t ∷ rest) o → byHit o ≡ some x
+  all-tested : (Xs : List ℕ) → All (λ Y. T (D .empty Y) ↔ CanBeEmpty (G .rules) (Y ∷ [])) Xs
+  all-tested [] = All.nothing
+  all-tested (Y ∷ Xs) = All.also (d .empty-says Y, d .says-empty Y) (all-tested Xs)
+
+  by-hit : {x : Pick} → (First (G .rules) (X ∷ σ) t → ⊥) → (o : Option Place) → Sought D d (X ∷ σ) known (t ∷ rest) o
+      → byHit D (X ∷ σ) o ≡ some x
       → Choice G (X ∷ σ) (t ∷ rest) x
   unfolding byHit
-  by-hit n (some p) (Sought.found h) e = subst (λ y. Choice G (X ∷ σ) (t ∷ rest) y) (some-same e) (Choice.correct n h)
+  by-hit n (some p) (Sought.found h) e = subst (λ y. Choice G (X ∷ σ) (t ∷ rest) y) (some-same e)
+      (Choice.correct n h (popped-by (D .empty) (all-tested (take (p .popped) (X ∷ σ)))))
   by-hit n none h e = absurd (none-some e)
 
   by-rest : {x : Pick} → (First (G .rules) (X ∷ []) t → ⊥) → (b : Bool) → D .first (X ∷ σ) t ≡ b → byRest D (X ∷ σ) (t ∷ rest) b ≡ some x

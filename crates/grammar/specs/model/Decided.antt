@@ -1,4 +1,4 @@
--- A grammar with tests for what a run asks of it: FIRST of a list, the cost of a symbol, and the reliability.
+-- A grammar with tests for what a run asks of it: FIRST of a list, what can be empty, the cost of a symbol, and the reliability.
 use Prim.Native.Nat.{ℕ}
 use mathlib.Core.Path.{_≡_, refl, sym, subst}
 use mathlib.Core.Bool.{Bool}
@@ -7,18 +7,19 @@ use mathlib.Core.Logic.{_⊎_, inl, inr, ⊎-elim}
 use native.Mathlib.Omega.{arith}
 use lib.Dec.{T}
 use Rattle.grammar.specs.Words.{Terminal}
-use Rattle.grammar.specs.Derivation.{Rules, All, First}
+use Rattle.grammar.specs.Derivation.{Rules, All, First, CanBeEmpty}
 use Rattle.grammar.specs.Cost.{SymbolCost, ListCost}
 use Rattle.grammar.specs.Grammar.{Grammar}
 use Rattle.grammar.specs.theory.Closed.{total}
 use Rattle.grammar.specs.theory.Leftmost.{Der, to-der, of-der}
 use Rattle.grammar.specs.model.Ruled.{Rule, RuleAt}
 
--- The tests: the rules in order, whether a token is in FIRST of a list, whether a symbol is the grammar's and what it
--- costs, and whether a cost is strictly below a token's reliability.
+-- The tests: the rules in order, whether a token is in FIRST of a list, whether a symbol can be empty, whether it is the grammar's and
+-- what it costs, and whether a cost is strictly below a token's reliability.
 pub record Tests : Type 0 where
   pub rules : List Rule
   pub first : List ℕ → ℕ → Bool
+  pub empty : ℕ → Bool
   pub inner : ℕ → Bool
   pub cost : ℕ → ℕ
   pub below : ℕ → ℕ → Bool
@@ -29,6 +30,8 @@ pub record Decided (G : Grammar) (D : Tests) : Type 0 where
   pub lists : (p A : ℕ) (β : List ℕ) → RuleAt (D .rules) p A β → G .rules p A β
   pub first-says : (α : List ℕ) (t : ℕ) → Terminal t → T (D .first α t) → First (G .rules) α t
   pub says-first : (α : List ℕ) (t : ℕ) → First (G .rules) α t → T (D .first α t)
+  pub empty-says : (X : ℕ) → T (D .empty X) → CanBeEmpty (G .rules) (X ∷ [])
+  pub says-empty : (X : ℕ) → CanBeEmpty (G .rules) (X ∷ []) → T (D .empty X)
   pub costs : (X : ℕ) → T (D .inner X) → SymbolCost (G .rules) (G .price) X (D .cost X)
   pub below-says : (c t : ℕ) → T (D .below c t) → G .reliable c t
   pub says-below : (c t : ℕ) → G .reliable c t → T (D .below c t)

@@ -7,7 +7,7 @@ use mathlib.Core.List.{List, [], _∷_, _++_}
 use lib.Dec.{T, ltb, ltb→lt}
 use Rattle.grammar.specs.Grammar.{Grammar}
 use Rattle.grammar.specs.Moves.{Move}
-use Rattle.grammar.specs.Run.{State, Limits, Pick, made, next, deletes, inserts, limit, Choice, Run}
+use Rattle.grammar.specs.Run.{State, Limits, Pick, made, next, deletes, pops, limit, Choice, Run}
 use Rattle.grammar.specs.declared.Refusal.{Refusal}
 use Rattle.grammar.specs.model.Tests.{none-some, some-same, left-of, right-of, every, every-all}
 use Rattle.grammar.specs.theory.Members.{all-map}
@@ -28,7 +28,7 @@ prepend ms none = none
 prepend ms (some d) = some (record { moves = ms ++ d .moves; end = d .end })
 
 unfoldable pub byLimit : (State → Option Done) → State → Pick → Option Refusal → Option Done
-unfolding prepend made next deletes inserts
+unfolding prepend made next deletes pops
 byLimit rec s x none = prepend (made s x) (rec (next s x))
 byLimit rec s x (some r) = some (record { moves = []; end = some r })
 

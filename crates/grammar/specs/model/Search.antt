@@ -91,12 +91,12 @@ module _ {G : Grammar} (D : Tests) (d : Decided G D) (t : ℕ) (l : Terminal t) 
 
 pub record Place : Type 0 where
   pub deleted : ℕ
-  pub inserted : ℕ
+  pub popped : ℕ
 
 unfoldable pub sooner : Option ℕ → Option Place → Option Place
 sooner none none = none
-sooner none (some p) = some (record { deleted = suc (p .deleted); inserted = p .inserted })
-sooner (some i) o = some (record { deleted = 0; inserted = i })
+sooner none (some p) = some (record { deleted = suc (p .deleted); popped = p .popped })
+sooner (some i) o = some (record { deleted = 0; popped = i })
 
 unfoldable pub seek : Tests → List ℕ → List ℕ → Option Place
 unfolding sooner fit
@@ -147,7 +147,7 @@ module _ {G : Grammar} (D : Tests) (d : Decided G D) (σ : List ℕ) (known : Al
       go (suc m) k l p = h .least-r m k (omega arith) p
 
   pub data Sought (rest : List ℕ) : Option Place → Type 0 where
-    found : {p : Place} → Hit G σ rest (p .deleted) (p .inserted) → Sought rest (some p)
+    found : {p : Place} → Hit G σ rest (p .deleted) (p .popped) → Sought rest (some p)
     lost : Sought rest none
 
   next-one : {t : ℕ} {rest : List ℕ} {o : Option ℕ} {q : Option Place} → Fitted G D σ 0 t o → Sought rest q → Sought (t ∷ rest) (sooner o q)

@@ -10,10 +10,10 @@ use native.Mathlib.Omega.{arith}
 use lib.ListN.{length, getD, take, drop, length-append, length-drop}
 use lib.Seq.{length-take-le}
 use Rattle.grammar.specs.Words.{END, Terminal}
-use Rattle.grammar.specs.Derivation.{All, First}
+use Rattle.grammar.specs.Derivation.{Rules, All, First}
 use Rattle.grammar.specs.Grammar.{Grammar}
 use Rattle.grammar.specs.Moves.{Move}
-use Rattle.grammar.specs.Run.{Pick, Choice, State, Limits, Run, started, next, made, deletes, inserts}
+use Rattle.grammar.specs.Run.{Pop, Popped, Pick, Choice, State, Limits, Run, started, next, made, deletes, pops}
 use Rattle.grammar.specs.declared.Refusal.{Refusal}
 use Rattle.grammar.specs.theory.Leftmost.{to-der}
 use Rattle.grammar.specs.theory.Closed.{closed-down}
@@ -22,6 +22,7 @@ use Rattle.grammar.specs.theory.Forms.{Ended, At, ended-nonempty, at-dow
 use Rattle.grammar.specs.theory.Reach.{first-append}
 use Rattle.grammar.specs.theory.Leads.{Budget, budget-full, budget-some, budget-expand, budget-drop}
 use Rattle.grammar.specs.theory.Chosen.{dropped-empty}
+use Rattle.grammar.specs.theory.Pops.{length-pops, popped-length}
 use Rattle.grammar.specs.theory.States.{LogToken, state, Live, choice-some, live-start, live-next}
 use Rattle.grammar.specs.theory.Paths.{Path, run-path}
 
@@ -54,22 +55,20 @@ unfolding deletes
 length-deletes p [] = refl
 length-deletes p (t ∷ ts) = ap suc (length-deletes (p + 1) ts)
 
-length-inserts : (r : ℕ) (Xs : List ℕ) → length (inserts r Xs) ≡ length Xs
-unfolding inserts
-length-inserts r [] = refl
-length-inserts r (X ∷ Xs) = ap suc (length-inserts r Xs)
+-- As many are popped as stood above.
+pub popped-count : {R : Rules} {ps : List Pop} (i : ℕ) (σ : List ℕ) → Popped R (take i σ) ps → i < length σ → length ps ≡ i
+popped-count i σ y l = omega (arith, popped-length y, length-take-le i σ (omega arith))
 
--- A correction makes j deletes and i inserts.
-pub correction-length : (p j i : ℕ) (σ ρ : List ℕ) → i < length σ → j < length ρ
-    → length (deletes p (take j ρ) ++ inserts (p + j) (take i σ)) ≡ j + i
-correction-length p j i σ ρ l h =
+-- A correction makes j deletes and i pops, whatever these become.
+pub correction-length : (p j i : ℕ) (ρ : List ℕ) (ps : List Pop) → length ps ≡ i → j < length ρ
+    → length (deletes p (take j ρ) ++ pops (p + j) ps) ≡ j + i
+correction-length p j i ρ ps l h =
     omega (
       arith,
-      length-append (deletes p (take j ρ)) (inserts (p + j) (take i σ)),
+      length-append (deletes p (take j ρ)) (pops (p + j) ps),
       length-deletes p (take j ρ),
-      length-inserts (p + j) (take i σ),
+      length-pops (p + j) ps,
       length-take-le j ρ (omega arith),
-      length-take-le i σ (omega arith),
     )
 
 pub tokens-drop : (j : ℕ) (ρ : List ℕ) → j < length ρ → tokensLeft (drop j ρ) + j ≡ tokensLeft ρ
@@ -110,8 +109,8 @@ module _ (G : Grammar) (N R : ℕ) (good : Good G N R) where
     pub on-expand : (p A t k : ℕ) (β σ ρ : List ℕ) (ms : List Move) → length β ≤ R → (ρ ≡ [] → ⊥) → count ms ≤ left k (β ++ σ) (t ∷ ρ)
         → count (Move.expand p ∷ ms) ≤ left (suc k) (A ∷ σ) (t ∷ ρ)
     pub on-drop : (X k : ℕ) (σ ρ : List ℕ) (ms : List Move) → count ms ≤ left k σ ρ → count (Move.drop X ∷ ms) ≤ left k (X ∷ σ) ρ
-    pub on-correct : (p j i : ℕ) (σ ρ : List ℕ) (ms : List Move) → i < length σ → j < length ρ → count ms ≤ left N (drop i σ) (drop j ρ)
-        → count ((deletes p (take j ρ) ++ inserts (p + j) (take i σ)) ++ ms) ≤ left N σ ρ
+    pub on-correct : (p j i : ℕ) (σ ρ : List ℕ) (ps : List Pop) (ms : List Move) → i < length σ → j < length ρ → length ps ≡ i
+        → count ms ≤ left N (drop i σ) (drop j ρ) → count ((deletes p (take j ρ) ++ pops (p + j) ps) ++ ms) ≤ left N σ ρ
 
   -- ---- The moves
 
@@ -149,12 +148,12 @@ module _ (G : Grammar) (N R : ℕ) (good : Good G N R) where
     on-match = λ p X t k σ ρ ms h. bounded-match X t k (length ms) σ ρ h;
     on-expand = λ p A t k β σ ρ ms l n h. bounded-expand A t k (length ms) β σ ρ l n h;
     on-drop = λ X k σ ρ ms h. bounded-drop X k (length ms) σ ρ h;
-    on-correct = λ p j i σ ρ ms l h b.
+    on-correct = λ p j i σ ρ ps ms l h c b.
         omega (
           arith,
           bounded-correct j i (length ms) σ ρ l h b,
-          correction-length p j i σ ρ l h,
-          length-append (deletes p (take j ρ) ++ inserts (p + j) (take i σ)) ms,
+          correction-length p j i ρ ps c h,
+          length-append (deletes p (take j ρ) ++ pops (p + j) ps) ms,
         );
   }
 
@@ -190,10 +189,11 @@ module _ (G : Grammar) (N R : ℕ) (good : Good G N R) where
   bounded-step M ms p c l k (Choice.expand r g) q a b f = expand-step M ms k r g q a (credit-budget (g .token) b) f
   bounded-step M ms p c l k (Choice.pass {X = X} {t = t} {σ = σ} {rest = ρ} g n) q a b f =
       M .on-drop X k σ (t ∷ ρ) ms (f k (credit-drop g n b))
-  bounded-step M ms p c l k (Choice.correct {t = t} {j = j} {i = i} {σ = σ} {rest = ρ} n x) q a b f =
-      subst (λ m. M .count ((deletes p (take j (t ∷ ρ)) ++ inserts (p + j) (take i σ)) ++ ms) ≤ M .left m σ (t ∷ ρ))
+  bounded-step M ms p c l k (Choice.correct {t = t} {j = j} {i = i} {σ = σ} {rest = ρ} {ps = ps} n x y) q a b f =
+      let l = x .plausible .within in
+      subst (λ m. M .count ((deletes p (take j (t ∷ ρ)) ++ pops (p + j) ps) ++ ms) ≤ M .left m σ (t ∷ ρ))
       (sym (credit-fresh n b))
-      (M .on-correct p j i σ (t ∷ ρ) ms (x .plausible .within) (x .within) (f N (Credit.fresh refl)))
+      (M .on-correct p j i σ (t ∷ ρ) ps ms l (x .within) (popped-count i σ y l) (f N (Credit.fresh refl)))
 
   live-step : (M : Measure) {σ ρ : List ℕ} {x : Pick} (ms : List Move) (p c l k : ℕ) → Choice G σ ρ x → Live G σ ρ → Credit G N σ ρ k
       → ((n : ℕ) → Credit G N (next (state σ p ρ c l) x .stack) (next (state σ p ρ c l) x .rest) n

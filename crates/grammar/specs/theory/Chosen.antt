@@ -1,6 +1,6 @@
 -- The choice of move is determined, and what it comes to: the hit is the one with the least r, then the least i; each
 -- correction deletes the fewest tokens that a plausible correction can; an r always exists, since END fits at the bottom.
--- A plausible correction at token r is `Plausible` of Run.antt: r is in FIRST of the symbol below the inserted ones, and
+-- A plausible correction at token r is `Plausible` of Run.antt: r is in FIRST of the symbol below the popped ones, and
 -- their cost is strictly below r's reliability.
 use Prim.Native.Nat.{ℕ, zero, suc, _+_, _≤_}
 use mathlib.Core.Path.{_≡_, refl, sym, _∙_, subst}
@@ -8,16 +8,17 @@ use mathlib.Core.List.{List, [], _∷_}
 use mathlib.Core.Logic.{dite}
 use native.Mathlib.Omega.{arith}
 use native.Mathlib.Decide.{decLt}
-use lib.ListN.{length, getD, length-append}
+use lib.ListN.{length, getD, take, length-append}
 use lib.Seq.{take-at, getD-at}
 use Rattle.grammar.specs.Words.{RuleSymbol, END, Terminal}
 use Rattle.grammar.specs.Derivation.{Rules, Derives, All, First, CanBeEmpty, Predict}
 use Rattle.grammar.specs.Cost.{Cheapest, SymbolCost, ListCost}
 use Rattle.grammar.specs.Grammar.{Grammar}
-use Rattle.grammar.specs.Run.{Plausible, Hit, Pick, Choice, expanding, correcting}
+use Rattle.grammar.specs.Run.{Plausible, Hit, Pop, Popped, Pick, Choice, expanding, correcting}
 use Rattle.grammar.specs.theory.Good.{Good}
 use Rattle.grammar.specs.theory.Forms.{Ended, not-terminal, ended-front}
 use Rattle.grammar.specs.theory.Reach.{first-append, first-down, first-past}
+use Rattle.grammar.specs.theory.Pops.{popped-unique}
 
 -- ---- Cost
 
@@ -45,9 +46,9 @@ module _ (G : Grammar) {σ rest : List ℕ} where
   pub fewest-deletes : {j i h k : ℕ} → Hit G σ rest j i → Plausible G σ (getD rest h END) k → j ≤ h
   fewest-deletes {j = j} {h = h} {k = k} x p = dite (decLt h j) (λ l. absurd (x .least-r h k l p)) (λ l. omega arith)
 
-  -- and at that token none inserts fewer.
-  pub fewest-inserts : {j i k : ℕ} → Hit G σ rest j i → Plausible G σ (getD rest j END) k → i ≤ k
-  fewest-inserts {i = i} {k = k} x p = dite (decLt k i) (λ l. absurd (x .least-i k l p)) (λ l. omega arith)
+  -- and at that token none pops fewer.
+  pub fewest-pops : {j i k : ℕ} → Hit G σ rest j i → Plausible G σ (getD rest j END) k → i ≤ k
+  fewest-pops {i = i} {k = k} x p = dite (decLt k i) (λ l. absurd (x .least-i k l p)) (λ l. omega arith)
 
   -- The hit is one.
   pub hit-unique : {j i k h : ℕ} → Hit G σ rest j i → Hit G σ rest k h → (j ≡ k) × (i ≡ h)
@@ -56,14 +57,14 @@ module _ (G : Grammar) {σ rest : List ℕ} where
         e,
         omega (
           arith,
-          fewest-inserts x (subst (λ n. Plausible G σ (getD rest n END) h) (sym e) (y .plausible)),
-          fewest-inserts y (subst (λ n. Plausible G σ (getD rest n END) i) e (x .plausible)),
+          fewest-pops x (subst (λ n. Plausible G σ (getD rest n END) h) (sym e) (y .plausible)),
+          fewest-pops y (subst (λ n. Plausible G σ (getD rest n END) i) e (x .plausible)),
         ),
       )
 
 -- A correction is chosen by its hit.
-pub correction-hit : (G : Grammar) {σ ρ : List ℕ} {j i : ℕ} → Choice G σ ρ (correcting j i) → Hit G σ ρ j i
-correction-hit G (Choice.correct n x) = x
+pub correction-hit : (G : Grammar) {σ ρ : List ℕ} {j i : ℕ} {ps : List Pop} → Choice G σ ρ (correcting j i ps) → Hit G σ ρ j i
+correction-hit G (Choice.correct n x y) = x
 
 -- A correction that makes no move would mean that the token was not in error.
 top-fits : (G : Grammar) {t : ℕ} {rest : List ℕ} (σ : List ℕ) (j i : ℕ) → Hit G σ (t ∷ rest) j i → j + i ≡ 0 → First (G .rules) σ t
@@ -100,25 +101,33 @@ module _ (G : Grammar) (N R : ℕ) (good : Good G N R) where
       let h : β ≡ γ = good .functional q A A β γ (subst (λ x. G .rules x A β) e r) s in
       cc
 
+  -- A correction is one: its hit, and what the symbols that it pops become.
+  correction-determined : {σ ρ : List ℕ} {j i k h : ℕ} {ps qs : List Pop} → Hit G σ ρ j i → Hit G σ ρ k h
+      → Popped (G .rules) (take i σ) ps → Popped (G .rules) (take h σ) qs → correcting j i ps ≡ correcting k h qs
+  correction-determined {σ = σ} {ps = ps} {qs = qs} x y a b =
+      let both = hit-unique G x y in
+      let same : ps ≡ qs = popped-unique a (subst (λ n. Popped (G .rules) (take n σ) qs) (sym (both .1)) b) in
+      cc (both .0, both .1, same)
+
   -- "The choice of move is one decision": two choices at a stack and a token are one.
   pub choice-determined : {t : ℕ} {σ rest : List ℕ} {x y : Pick} → Choice G σ (t ∷ rest) x → Choice G σ (t ∷ rest) y → Terminal t
       → x ≡ y
   choice-determined (Choice.match e) (Choice.match f) l = refl
   choice-determined (Choice.match e) (Choice.expand s g) l = absurd (top-not-token s l e)
   choice-determined (Choice.match e) (Choice.pass g n) l = absurd (n (first-self [] l e))
-  choice-determined (Choice.match {σ = σ} e) (Choice.correct n y) l = absurd (n (first-self σ l e))
+  choice-determined (Choice.match {σ = σ} e) (Choice.correct n y z) l = absurd (n (first-self σ l e))
   choice-determined (Choice.expand r f) (Choice.match e) l = absurd (top-not-token r l e)
   choice-determined (Choice.expand r f) (Choice.expand s g) l = expand-unique r f s g
   choice-determined (Choice.expand r f) (Choice.pass g n) l = absurd (n (first-down (G .rules) r f))
-  choice-determined (Choice.expand {σ = σ} r f) (Choice.correct n y) l = absurd (n (first-top σ r f))
+  choice-determined (Choice.expand {σ = σ} r f) (Choice.correct n y z) l = absurd (n (first-top σ r f))
   choice-determined (Choice.pass f n) (Choice.match e) l = absurd (n (first-self [] l e))
   choice-determined (Choice.pass f n) (Choice.expand s g) l = absurd (n (first-down (G .rules) s g))
   choice-determined (Choice.pass f n) (Choice.pass g m) l = refl
-  choice-determined (Choice.pass f n) (Choice.correct m y) l = absurd (m f)
-  choice-determined (Choice.correct n x) (Choice.match {σ = σ} e) l = absurd (n (first-self σ l e))
-  choice-determined (Choice.correct n x) (Choice.expand {σ = σ} s g) l = absurd (n (first-top σ s g))
-  choice-determined (Choice.correct n x) (Choice.pass g m) l = absurd (n g)
-  choice-determined (Choice.correct n x) (Choice.correct m y) l = let both = hit-unique G x y in cc (both .0, both .1)
+  choice-determined (Choice.pass f n) (Choice.correct m y z) l = absurd (m f)
+  choice-determined (Choice.correct n x a) (Choice.match {σ = σ} e) l = absurd (n (first-self σ l e))
+  choice-determined (Choice.correct n x a) (Choice.expand {σ = σ} s g) l = absurd (n (first-top σ s g))
+  choice-determined (Choice.correct n x a) (Choice.pass g m) l = absurd (n g)
+  choice-determined (Choice.correct n x a) (Choice.correct m y b) l = correction-determined x y a b
 
   -- ---- "An r always exists, since END fits at the bottom."
 

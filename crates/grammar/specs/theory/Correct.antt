@@ -57,7 +57,7 @@ module _ (G : Grammar) (N R : ℕ) (good : Good G N R) where
       behind-terminal d (subst (λ x. Terminal x) (sym e) (token-terminal q))
   derives-next p k l (Choice.expand r f) (Live.running s q a) d = expand-derives a r f d
   derives-next p k l (Choice.pass f n) (Live.running s q a) d = drop-derives (f .token) n d
-  derives-next p k l (Choice.correct n x) (Live.running s q a) d = absurd (n (not-in-error (token-terminal q) d))
+  derives-next p k l (Choice.correct n x y) (Live.running s q a) d = absurd (n (not-in-error (token-terminal q) d))
 
   edits-next : {σ ρ : List ℕ} {x : Pick} (ms : List Move) (p k l : ℕ) → Choice G σ ρ x → Live G σ ρ → Der (G .rules) σ ρ
       → edits ms ≡ [] → edits (made (state σ p ρ k l) x ++ ms) ≡ []
@@ -66,7 +66,7 @@ module _ (G : Grammar) (N R : ℕ) (good : Good G N R) where
   edits-next ms p k l (Choice.match e) (Live.running s q a) d h = h
   edits-next ms p k l (Choice.expand r f) (Live.running s q a) d h = h
   edits-next ms p k l (Choice.pass f n) (Live.running s q a) d h = h
-  edits-next ms p k l (Choice.correct n x) (Live.running s q a) d h = absurd (n (not-in-error (token-terminal q) d))
+  edits-next ms p k l (Choice.correct n x y) (Live.running s q a) d h = absurd (n (not-in-error (token-terminal q) d))
 
   unedited : {L : Limits} {s : State} {ms : List Move} {o : Option Refusal} → Run G L s ms o → Live G (s .stack) (s .rest)
       → Der (G .rules) (s .stack) (s .rest) → edits ms ≡ []

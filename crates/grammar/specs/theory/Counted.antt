@@ -11,8 +11,8 @@ use lib.Seq.{length-take-le, drop-drop}
 use lib.Dec.{leb, ltb, leb→le, nltb→le, T}
 use Rattle.grammar.specs.Grammar.{Grammar}
 use Rattle.grammar.specs.Moves.{Move, edits, ruleNumbers, passed, placed}
-use Rattle.grammar.specs.Run.{Pick, Choice, matching, expanding, dropping, correcting}
-use Rattle.grammar.specs.Run.{State, Limits, next, made, limit, deletes, inserts}
+use Rattle.grammar.specs.Run.{Pop, Pick, Choice, matching, expanding, dropping, correcting}
+use Rattle.grammar.specs.Run.{State, Limits, next, made, limit, deletes, pops}
 use Rattle.grammar.specs.declared.Refusal.{Refusal}
 use Rattle.grammar.specs.declared.Refusal.the-variants.{StackFull, NoRoom}
 use Rattle.grammar.specs.theory.States.{state}
@@ -33,14 +33,14 @@ unfolding next
 next-records s matching = refl
 next-records s (expanding p β) = refl
 next-records s dropping = refl
-next-records s (correcting j i) = refl
+next-records s (correcting j i ps) = refl
 
 pub next-listed : (s : State) (x : Pick) → next s x .listed ≡ s .listed + length (ruleNumbers (made s x))
 unfolding next
 next-listed s matching = refl
 next-listed s (expanding p β) = refl
 next-listed s dropping = refl
-next-listed s (correcting j i) = refl
+next-listed s (correcting j i ps) = refl
 
 -- The tokens that a choice passes are behind it.
 pub record Passing (s : State) (x : Pick) : Type 0 where
@@ -52,12 +52,12 @@ unfolding next made passed
 passing p k l (Choice.match e) = record { place = refl; rest = refl }
 passing p k l (Choice.expand r f) = record { place = omega arith; rest = refl }
 passing p k l (Choice.pass f n) = record { place = omega arith; rest = refl }
-passing {σ = σ} {ρ = ρ} p k l (Choice.correct {j = j} {i = i} n x) =
-    let tokens : length (passed (deletes p (take j ρ) ++ inserts (p + j) (take i σ))) ≡ j =
+passing {ρ = ρ} p k l (Choice.correct {j = j} {ps = ps} n x y) =
+    let tokens : length (passed (deletes p (take j ρ) ++ pops (p + j) ps)) ≡ j =
     omega (
       arith,
-      ap (λ ms. length (passed ms)) (append-nil (deletes p (take j ρ) ++ inserts (p + j) (take i σ))),
-      ap length (passed-correction p (p + j) (take j ρ) (take i σ) []),
+      ap (λ ms. length (passed ms)) (append-nil (deletes p (take j ρ) ++ pops (p + j) ps)),
+      ap length (passed-correction p (p + j) (take j ρ) ps []),
       length-append (placed p (take j ρ)) [],
       placed-length p (take j ρ),
       length-take-le j ρ (omega (arith, x .within)),
@@ -127,15 +127,16 @@ within-expand L s p β e w =
     let room = leb→le (s .listed + 1) (L .ruleRoom) (allows fits NoRoom (h .1)) in
     record { height = top; records = omega (arith, w .records); listed = room }
 
-within-correct : (L : Limits) (s : State) (j i : ℕ) → limit L s (correcting j i) ≡ none → Within L s → Within L (next s (correcting j i))
+within-correct : (L : Limits) (s : State) (j i : ℕ) (ps : List Pop) → limit L s (correcting j i ps) ≡ none → Within L s
+    → Within L (next s (correcting j i ps))
 unfolding limit next made ruleNumbers
-within-correct L s j i e w =
-    let behind = 3 * next s (correcting j i) .records in
-    let none-listed = rules-correction (s .place) (s .place + j) (take j (s .rest)) (take i (s .stack)) [] in
+within-correct L s j i ps e w =
+    let behind = 3 * next s (correcting j i ps) .records in
+    let none-listed = rules-correction (s .place) (s .place + j) (take j (s .rest)) ps [] in
     record {
       height = omega (arith, length-drop i (s .stack), w .height);
       records = leb→le behind (L .editRoom) (allows (leb behind (L .editRoom)) NoRoom e);
-      listed = omega (arith, ap length (ap ruleNumbers (sym (append-nil (made s (correcting j i)))) ∙ none-listed), w .listed);
+      listed = omega (arith, ap length (ap ruleNumbers (sym (append-nil (made s (correcting j i ps)))) ∙ none-listed), w .listed);
     }
 
 tail-length : (σ : List ℕ) → length (tail σ) ≤ length σ
@@ -157,7 +158,7 @@ within-next L s dropping e w =
       records = omega (arith, w .records);
       listed = omega (arith, w .listed);
     }
-within-next L s (correcting j i) e w = within-correct L s j i e w
+within-next L s (correcting j i ps) e w = within-correct L s j i ps e w
 
 -- No path passes a limit.
 pub path-within : {G : Grammar} {L : Limits} {s u : State} {ms : List Move} → Path G L s ms u → Within L s → Within L u

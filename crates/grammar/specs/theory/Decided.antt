@@ -1,6 +1,6 @@
--- FIRST is decided for a good grammar whose rules are finitely many and decided, as an accepted grammar's are: what can be
--- empty is so by a derivation at most N high, and what leads to a token does so by at most N expands, so both are searches
--- with an end.
+-- FIRST and what can be empty are decided for a good grammar whose rules are finitely many and decided, as an accepted grammar's are: what
+-- can be empty is so by a derivation at most N high, and what leads to a token does so by at most N expands, so both are searches with an
+-- end.
 use Prim.Native.Nat.{ℕ, zero, suc, _<_}
 use mathlib.Core.Path.{_≡_, refl, subst}
 use mathlib.Core.List.{List, [], _∷_, cons≢nil}
@@ -130,32 +130,39 @@ module _
     decShort zero α = no (λ s. absurd (omega (arith, s .short)))
     decShort (suc d) α = decShortList d (decShort d) α
 
--- FIRST is decided.
-pub decFirst : (G : Grammar) (N R : ℕ) → Good G N R → (P : ℕ) → ((p A : ℕ) (β : List ℕ) → G .rules p A β → p < P)
-    → ((p A : ℕ) → Dec ((β : List ℕ) × G .rules p A β)) → (α : List ℕ) (t : ℕ) → Dec (First (G .rules) α t)
-decFirst G N R good P counted decRule α t =
-    dite
-    (decLt t 64)
-    (λ l.
-    dite
-    (decShort (G .rules) P counted functional decRule decEmpty t (suc N) α)
-    (λ s. yes (lead-first G N R good (s .lead) l))
-    (λ n.
-    no
-    (λ f.
-    let h = first-lead (G .rules) f in
-    n (record { expanded = h .0; lead = h .1; short = omega (arith, budget-full G N R good α l (h .0) (h .1)) }))))
-    (λ n. no (λ f. n (f .token)))
-  where
-    functional : (p A : ℕ) (β γ : List ℕ) → G .rules p A β → G .rules p A γ → β ≡ γ
-    functional p A β γ r s = good .functional p A A β γ r s
+module _
+    (G : Grammar)
+    (N R : ℕ)
+    (good : Good G N R)
+    (P : ℕ)
+    (counted : (p A : ℕ) (β : List ℕ) → G .rules p A β → p < P)
+    (decRule : (p A : ℕ) → Dec ((β : List ℕ) × G .rules p A β)) where
+  functional : (p A : ℕ) (β γ : List ℕ) → G .rules p A β → G .rules p A γ → β ≡ γ
+  functional p A β γ r s = good .functional p A A β γ r s
 
-    decEmpty : (X : ℕ) → Dec (CanBeEmpty (G .rules) (X ∷ []))
-    decEmpty X =
-        dite
-        (decNull (G .rules) P counted functional decRule N (X ∷ []))
-        (λ h. yes (of-der (G .rules) (der-of-empties (G .rules) (null-empties h .1))))
-        (λ n. no (λ c. n (null-high G N R good c)))
+  -- What can be empty is decided,
+  pub decEmpty : (X : ℕ) → Dec (CanBeEmpty (G .rules) (X ∷ []))
+  decEmpty X =
+      dite
+      (decNull (G .rules) P counted functional decRule N (X ∷ []))
+      (λ h. yes (of-der (G .rules) (der-of-empties (G .rules) (null-empties h .1))))
+      (λ n. no (λ c. n (null-high G N R good c)))
+
+  -- and so is FIRST.
+  pub decFirst : (α : List ℕ) (t : ℕ) → Dec (First (G .rules) α t)
+  decFirst α t =
+      dite
+      (decLt t 64)
+      (λ l.
+      dite
+      (decShort (G .rules) P counted functional decRule decEmpty t (suc N) α)
+      (λ s. yes (lead-first G N R good (s .lead) l))
+      (λ n.
+      no
+      (λ f.
+      let h = first-lead (G .rules) f in
+      n (record { expanded = h .0; lead = h .1; short = omega (arith, budget-full G N R good α l (h .0) (h .1)) }))))
+      (λ n. no (λ f. n (f .token)))
 
 -- ---- The words of an accepted grammar
 
@@ -174,6 +181,11 @@ decRuleOf ws p A =
 pub decFirstOf : (ws : List ℕ) → Accepted ws → (α : List ℕ) (t : ℕ) → Dec (First (RuleOf ws) α t)
 decFirstOf ws a =
     decFirst (grammarOf ws) (nonterminalCount ws) 8 (good-words ws a) (ruleCount ws) (λ p A β r. r .counted) (decRuleOf ws)
+
+-- what can be empty is,
+pub decEmptyOf : (ws : List ℕ) → Accepted ws → (X : ℕ) → Dec (CanBeEmpty (RuleOf ws) (X ∷ []))
+decEmptyOf ws a =
+    decEmpty (grammarOf ws) (nonterminalCount ws) 8 (good-words ws a) (ruleCount ws) (λ p A β r. r .counted) (decRuleOf ws)
 
 -- and so is the reliability test.
 pub decReliableOf : (ws : List ℕ) (c t : ℕ) → Dec (Reliable ws c t)

@@ -16,7 +16,7 @@ use Rattle.grammar.specs.Derivation.{Reachable, Productive, NoneShared}
 use Rattle.grammar.specs.Grammar.{RuleOf, Affordable, EachNonterminal, Verdict, grammarOf, startOverEnd, grammarConditions}
 use Rattle.grammar.specs.Buffers.{filled, cleared}
 use Rattle.grammar.specs.Moves.{Move, Edit, edits, editWords, ruleNumbers, repaired, passed, placed}
-use Rattle.grammar.specs.Run.{Plausible, Hit, Choice, correcting}
+use Rattle.grammar.specs.Run.{Plausible, Hit, Pop, Choice, correcting}
 use Rattle.grammar.specs.Run.{LogFits, runConditions, RunOf, countsOf, Parses, Parsed}
 use Rattle.grammar.specs.Refusals.{Outcome, given, refused}
 use Rattle.grammar.specs.File.{fileConditions, fileWords, FileRead}
@@ -27,7 +27,6 @@ use Rattle.grammar.specs.declared.Counts.{Counts}
 use Rattle.grammar.specs.declared.Pace.the-variants.{Idle}
 use Rattle.grammar.specs.theory.Good.{Good, accepted, good-within, opens-with-start, eight-bounds}
 use Rattle.grammar.specs.theory.States.{LogToken}
-use Rattle.grammar.specs.theory.Exists as Exists
 use Rattle.grammar.specs.theory.Chosen as Chosen
 use Rattle.grammar.specs.theory.Answers as Answers
 use Rattle.grammar.specs.theory.Conditions.{Held}
@@ -43,7 +42,8 @@ use Rattle.grammar.specs.theory.Correct as Correct
 use Rattle.grammar.specs.theory.Bounded as Bounded
 use Rattle.grammar.specs.theory.Rebuilt.{rebuilt, rebuilt-repaired}
 use Rattle.grammar.specs.theory.Kept.{parsed-made}
-use Rattle.grammar.specs.cases.Cases.{case12, editRoom, ruleRoom}
+use Rattle.grammar.specs.cases.Case.{editRoom, ruleRoom}
+use Rattle.grammar.specs.cases.Cases.{case12}
 use Rattle.grammar.specs.cases.Bound as Bound
 
 -- ======== Demand 1: every input gets its answer, each refusal exactly when the table says
@@ -138,8 +138,8 @@ accepted-exactly ws =
       λ h. both .1 (h .0, (h .1, (h .2, (h .3, (h .4, tt))))),
     )
 
--- A correction, which deletes j tokens and inserts i symbols at stack σ and rest ρ of the log.
-module _ (ws : List ℕ) {σ ρ : List ℕ} {j i : ℕ} (chosen : Choice (grammarOf ws) σ ρ (correcting j i)) where
+-- A correction, which deletes j tokens and pops i symbols at stack σ and rest ρ of the log.
+module _ (ws : List ℕ) {σ ρ : List ℕ} {j i : ℕ} {ps : List Pop} (chosen : Choice (grammarOf ws) σ ρ (correcting j i ps)) where
   hit : Hit (grammarOf ws) σ ρ j i
   hit = Chosen.correction-hit (grammarOf ws) chosen
 
@@ -147,9 +147,9 @@ module _ (ws : List ℕ) {σ ρ : List ℕ} {j i : ℕ} (chosen : Choice (gramma
   pub fewest-deletes : (h k : ℕ) → Plausible (grammarOf ws) σ (getD ρ h END) k → j ≤ h
   fewest-deletes h k p = Chosen.fewest-deletes (grammarOf ws) hit p
 
-  -- and then inserts the fewest.
-  pub fewest-inserts : (k : ℕ) → Plausible (grammarOf ws) σ (getD ρ j END) k → i ≤ k
-  fewest-inserts k p = Chosen.fewest-inserts (grammarOf ws) hit p
+  -- and then pops the fewest symbols.
+  pub fewest-pops : (k : ℕ) → Plausible (grammarOf ws) σ (getD ρ j END) k → i ≤ k
+  fewest-pops k p = Chosen.fewest-pops (grammarOf ws) hit p
 
 -- The run of a log: Sentences.antt says that there is one, and only one.
 module _ (ws log : List ℕ) (passes : Verdict ws none) (fits : LogFits ws log) where

@@ -1,5 +1,5 @@
--- A run exists for every log of a good grammar: it ends, or is refused by 11 or 12. FIRST and the reliability test are taken
--- as decided here; for words, the grammar check's tables decide them. Each decision makes a move and moves are bounded.
+-- A run exists for every log of a good grammar: it ends, or is refused by 11 or 12. FIRST, what can be empty and the reliability test
+-- are taken as decided here; for words, the grammar check's tables decide them. Each decision makes a move and moves are bounded.
 use Prim.Native.Nat.{ℕ, zero, suc, _+_, _*_, _≤_, _<_}
 use mathlib.Core.Path.{_≡_, refl, sym, subst}
 use mathlib.Core.Bool.{Bool, true, false, cond}
@@ -8,10 +8,10 @@ use mathlib.Core.Logic.{_⊎_, inl, inr, ⊎-elim, dite}
 use mathlib.Core.Option.{Option, none, some}
 use native.Mathlib.Omega.{arith}
 use native.Mathlib.Decide.{decLt}
-use lib.ListN.{length, getD, length-append}
+use lib.ListN.{length, getD, take, length-append}
 use lib.Dec.{leb, ltb}
 use Rattle.grammar.specs.Words.{END, Terminal}
-use Rattle.grammar.specs.Derivation.{Derives, All, First}
+use Rattle.grammar.specs.Derivation.{Derives, All, First, CanBeEmpty}
 use Rattle.grammar.specs.Grammar.{Grammar}
 use Rattle.grammar.specs.Moves.{Move}
 use Rattle.grammar.specs.Run.{Plausible, Hit, Pick, Choice, matching, expanding, dropping, correcting}
@@ -26,7 +26,8 @@ use Rattle.grammar.specs.theory.Predictive.{first-or-behind}
 use Rattle.grammar.specs.theory.Chosen.{list-cost, list-cost-unique, end-fits, correction-moves}
 use Rattle.grammar.specs.theory.States.{LogToken, state, Live, ended-take, live-start}
 use Rattle.grammar.specs.theory.Paths.{Path, path-on, path-live}
-use Rattle.grammar.specs.theory.Bounded.{correction-length, path-moves-bounded}
+use Rattle.grammar.specs.theory.Pops.{popped-exists}
+use Rattle.grammar.specs.theory.Bounded.{popped-count, correction-length, path-moves-bounded}
 
 -- ---- The outcomes of a run, of any grammar
 
@@ -49,7 +50,7 @@ unfolding limit
 limit-ending L s matching = Ending.ends
 limit-ending L s (expanding p β) = ending-stack (ltb (L .height) _) (ending-room (leb _ (L .ruleRoom)) refl) refl
 limit-ending L s dropping = Ending.ends
-limit-ending L s (correcting j i) = ending-room (leb _ (L .editRoom)) refl
+limit-ending L s (correcting j i ps) = ending-room (leb _ (L .editRoom)) refl
 
 -- It ends, or is refused by 11 or 12.
 pub run-ending : {G : Grammar} {L : Limits} {s : State} {ms : List Move} {o : Option Refusal} → Run G L s ms o → Ending o
@@ -94,8 +95,9 @@ unfolding made
 made-some p k l (Choice.match e) = omega arith
 made-some p k l (Choice.expand r f) = omega arith
 made-some p k l (Choice.pass f n) = omega arith
-made-some {G = G} p k l (Choice.correct {t = t} {j = j} {i = i} {σ = σ} {rest = ρ} n x) =
-    omega (arith, correction-moves G n x, correction-length p j i σ (t ∷ ρ) (x .plausible .within) (x .within))
+made-some {G = G} p k l (Choice.correct {t = t} {j = j} {i = i} {σ = σ} {rest = ρ} {ps = ps} n x y) =
+    let popped = popped-count i σ y (x .plausible .within) in
+    omega (arith, correction-moves G n x, correction-length p j i (t ∷ ρ) ps popped (x .within))
 
 module _ (G : Grammar) (N R : ℕ) (good : Good G N R) where
   -- A token in FIRST of the stack has its choice.
@@ -121,6 +123,7 @@ module _
     (N R : ℕ)
     (good : Good G N R)
     (decFirst : (α : List ℕ) (t : ℕ) → Dec (First (G .rules) α t))
+    (decEmpty : (X : ℕ) → Dec (CanBeEmpty (G .rules) (X ∷ [])))
     (decReliable : (c t : ℕ) → Dec (G .reliable c t)) where
   decPlausible : {σ : List ℕ} → Ended (G .known) σ → (t i : ℕ) → Dec (Plausible G σ t i)
   decPlausible {σ = σ} e t i =
@@ -180,7 +183,10 @@ module _
       dite
       (decFirst σ t)
       (λ f. fitting-choice G N R good (first-reach (G .rules) f .2) (f .token) a ρ)
-      (λ n. let h = hit-exists s q in (correcting (h .0) (h .1), Choice.correct n (h .2)))
+      (λ n.
+      let h = hit-exists s q in
+      let p = popped-exists decEmpty (take (h .1) σ) in
+      (correcting (h .0) (h .1) (p .0), Choice.correct n (h .2) (p .1)))
 
   -- While a run runs there is a choice.
   pub choice-exists : {σ ρ : List ℕ} → Ended (G .known) σ → Ended LogToken ρ → At G σ → (x : Pick) × Choice G σ ρ x

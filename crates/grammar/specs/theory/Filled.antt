@@ -10,7 +10,7 @@ use Rattle.grammar.specs.Words.{END, Terminal}
 use Rattle.grammar.specs.Derivation.{Rules, All, Yields}
 use Rattle.grammar.specs.Grammar.{Grammar}
 use Rattle.grammar.specs.Moves.{Move, logToken, repaired, Placed, passed, placed}
-use Rattle.grammar.specs.Run.{Pick, Choice, State, Limits, Run, started, made, deletes, inserts}
+use Rattle.grammar.specs.Run.{Pop, Popped, Pick, Choice, State, Limits, Run, started, made, deletes, pops}
 use Rattle.grammar.specs.declared.Refusal.{Refusal}
 use Rattle.grammar.specs.theory.Leftmost.{Der, to-der, of-der, der-append, der-refl, der-trans}
 use Rattle.grammar.specs.theory.Closed.{all-append}
@@ -97,13 +97,14 @@ filled-deletes p [] f = f
 filled-deletes p (t ∷ ts) f = Filled.deleted (filled-deletes (p + 1) ts f)
 
 module _ (G : Grammar) (N R : ℕ) (good : Good G N R) where
-  filled-inserts : {Xs w : List ℕ} {ms : List Move} (r : ℕ) → All (G .known) Xs → Filled (G .rules) ms w
-      → (v : List ℕ) × Filled (G .rules) (inserts r Xs ++ ms) v
-  unfolding inserts
-  filled-inserts {w = w} r All.nothing f = (w, f)
-  filled-inserts r (All.also h a) f =
+  filled-pops : {Xs w : List ℕ} {ps : List Pop} {ms : List Move} (r : ℕ) → Popped (G .rules) Xs ps → All (G .known) Xs
+      → Filled (G .rules) ms w → (v : List ℕ) × Filled (G .rules) (pops r ps ++ ms) v
+  unfolding pops
+  filled-pops {w = w} r Popped.nothing a f = (w, f)
+  filled-pops r (Popped.empty c y) (All.also h a) f = let rest = filled-pops r y a f in (rest .0, Filled.dropped (rest .1))
+  filled-pops r (Popped.missing n y) (All.also h a) f =
       let string = yields-some G N R good (All.also h All.nothing) in
-      let rest = filled-inserts r a f in
+      let rest = filled-pops r y a f in
       (string .0 ++ rest .0, Filled.replaced (string .1) (rest .1))
 
   filled-step : {σ ρ : List ℕ} {x : Pick} {ms : List Move} {w : List ℕ} (p k l : ℕ) → Choice G σ ρ x → Live G σ ρ
@@ -113,11 +114,11 @@ module _ (G : Grammar) (N R : ℕ) (good : Good G N R) where
   filled-step {w = w} p k l (Choice.match {t = t} e) (Live.running s q a) f = (logToken t ++ w, Filled.kept f)
   filled-step {w = w} p k l (Choice.expand r g) (Live.running s q a) f = (w, Filled.expanded f)
   filled-step {w = w} p k l (Choice.pass g n) (Live.running s q a) f = (w, Filled.dropped f)
-  filled-step {σ = σ} {ρ = ρ} {ms = ms} p k l (Choice.correct {j = j} {i = i} n x) (Live.running s q a) f =
-      let rest = filled-inserts (p + j) (ended-take i s (x .plausible .within)) f in (
+  filled-step {ρ = ρ} {ms = ms} p k l (Choice.correct {j = j} {i = i} {ps = ps} n x y) (Live.running s q a) f =
+      let rest = filled-pops (p + j) y (ended-take i s (x .plausible .within)) f in (
         rest .0,
         subst (λ l. Filled (G .rules) l (rest .0))
-            (sym (append-assoc (deletes p (take j ρ)) (inserts (p + j) (take i σ)) ms))
+            (sym (append-assoc (deletes p (take j ρ)) (pops (p + j) ps) ms))
             (filled-deletes p (take j ρ) (rest .1)),
       )
 

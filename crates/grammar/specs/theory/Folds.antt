@@ -1,12 +1,18 @@
 -- What a list of moves leaves, move list by move list: the repaired log, the tokens passed and the edits of moves one behind
--- another, and of a correction's deletes and inserts.
+-- another, and of a correction's deletes, drops and inserts.
 use Prim.Native.Nat.{ℕ, zero, suc, _+_, _*_, _≤_}
 use mathlib.Core.Path.{_≡_, refl, sym, ap, _∙_}
 use mathlib.Core.List.{List, [], _∷_, _++_, append-assoc, append-nil}
 use native.Mathlib.Omega.{arith}
 use lib.ListN.{length, take, drop, length-append}
 use Rattle.grammar.specs.Moves.{Move, Edit, edits, editWords, ruleNumbers, logToken, repaired, passed, placed}
-use Rattle.grammar.specs.Run.{deletes, inserts}
+use Rattle.grammar.specs.Run.{Pop, deletes, pops}
+
+-- The symbols that are inserted, of those popped.
+unfoldable pub missingOf : List Pop → List ℕ
+missingOf [] = []
+missingOf (Pop.dropped X ∷ ps) = missingOf ps
+missingOf (Pop.inserted X ∷ ps) = X ∷ missingOf ps
 
 -- ---- The repaired log
 
@@ -26,17 +32,19 @@ unfolding repaired deletes
 repaired-deletes p [] = refl
 repaired-deletes p (t ∷ ts) = repaired-deletes (p + 1) ts
 
-repaired-inserts : (r : ℕ) (Xs : List ℕ) → repaired (inserts r Xs) ≡ Xs
-unfolding repaired inserts
-repaired-inserts r [] = refl
-repaired-inserts r (X ∷ Xs) = ap (λ l. X ∷ l) (repaired-inserts r Xs)
+repaired-pops : (r : ℕ) (ps : List Pop) → repaired (pops r ps) ≡ missingOf ps
+unfolding repaired pops missingOf
+repaired-pops r [] = refl
+repaired-pops r (Pop.dropped X ∷ ps) = repaired-pops r ps
+repaired-pops r (Pop.inserted X ∷ ps) = ap (λ l. X ∷ l) (repaired-pops r ps)
 
 -- A correction leaves the symbols that it inserts.
-pub repaired-correction : (p r : ℕ) (ts Xs : List ℕ) (ms : List Move) → repaired ((deletes p ts ++ inserts r Xs) ++ ms) ≡ Xs ++ repaired ms
-repaired-correction p r ts Xs ms =
-    let e : repaired (deletes p ts ++ inserts r Xs) ≡ Xs =
-    cc (repaired-append (deletes p ts) (inserts r Xs), repaired-deletes p ts, repaired-inserts r Xs) in
-    repaired-append (deletes p ts ++ inserts r Xs) ms ∙ ap (λ l. l ++ repaired ms) e
+pub repaired-correction : (p r : ℕ) (ts : List ℕ) (ps : List Pop) (ms : List Move)
+    → repaired ((deletes p ts ++ pops r ps) ++ ms) ≡ missingOf ps ++ repaired ms
+repaired-correction p r ts ps ms =
+    let e : repaired (deletes p ts ++ pops r ps) ≡ missingOf ps =
+    cc (repaired-append (deletes p ts) (pops r ps), repaired-deletes p ts, repaired-pops r ps) in
+    repaired-append (deletes p ts ++ pops r ps) ms ∙ ap (λ l. l ++ repaired ms) e
 
 -- A token of the log leaves itself, END nothing.
 pub log-token : (t : ℕ) → 1 ≤ t → logToken t ≡ t ∷ []
@@ -61,18 +69,19 @@ unfolding passed deletes placed
 passed-deletes p [] = refl
 passed-deletes p (t ∷ ts) = ap (λ l. record { place = p; token = t } ∷ l) (passed-deletes (p + 1) ts)
 
-passed-inserts : (r : ℕ) (Xs : List ℕ) → passed (inserts r Xs) ≡ []
-unfolding passed inserts
-passed-inserts r [] = refl
-passed-inserts r (X ∷ Xs) = passed-inserts r Xs
+passed-pops : (r : ℕ) (ps : List Pop) → passed (pops r ps) ≡ []
+unfolding passed pops
+passed-pops r [] = refl
+passed-pops r (Pop.dropped X ∷ ps) = passed-pops r ps
+passed-pops r (Pop.inserted X ∷ ps) = passed-pops r ps
 
 -- A correction passes the tokens that it deletes.
-pub passed-correction : (p r : ℕ) (ts Xs : List ℕ) (ms : List Move)
-    → passed ((deletes p ts ++ inserts r Xs) ++ ms) ≡ placed p ts ++ passed ms
-passed-correction p r ts Xs ms =
-    let e : passed (deletes p ts ++ inserts r Xs) ≡ placed p ts =
-    cc (passed-append (deletes p ts) (inserts r Xs), passed-deletes p ts, passed-inserts r Xs, append-nil (placed p ts)) in
-    passed-append (deletes p ts ++ inserts r Xs) ms ∙ ap (λ l. l ++ passed ms) e
+pub passed-correction : (p r : ℕ) (ts : List ℕ) (ps : List Pop) (ms : List Move)
+    → passed ((deletes p ts ++ pops r ps) ++ ms) ≡ placed p ts ++ passed ms
+passed-correction p r ts ps ms =
+    let e : passed (deletes p ts ++ pops r ps) ≡ placed p ts =
+    cc (passed-append (deletes p ts) (pops r ps), passed-deletes p ts, passed-pops r ps, append-nil (placed p ts)) in
+    passed-append (deletes p ts ++ pops r ps) ms ∙ ap (λ l. l ++ passed ms) e
 
 -- The tokens of a list, with their places, are those of its first j and those behind.
 pub placed-split : (p j : ℕ) (ts : List ℕ) → j ≤ length ts → placed p (take j ts) ++ placed (p + j) (drop j ts) ≡ placed p ts
@@ -100,23 +109,24 @@ unfolding edits deletes
 edits-deletes p [] = refl
 edits-deletes p (t ∷ ts) = ap suc (edits-deletes (p + 1) ts)
 
-edits-inserts : (r : ℕ) (Xs : List ℕ) → length (edits (inserts r Xs)) ≡ length Xs
-unfolding edits inserts
-edits-inserts r [] = refl
-edits-inserts r (X ∷ Xs) = ap suc (edits-inserts r Xs)
+edits-pops : (r : ℕ) (ps : List Pop) → length (edits (pops r ps)) ≡ length (missingOf ps)
+unfolding edits pops missingOf
+edits-pops r [] = refl
+edits-pops r (Pop.dropped X ∷ ps) = edits-pops r ps
+edits-pops r (Pop.inserted X ∷ ps) = ap suc (edits-pops r ps)
 
--- A correction lists a record for each token that it deletes and each symbol that it inserts,
-pub edits-correction : (p r : ℕ) (ts Xs : List ℕ) (ms : List Move)
-    → length (edits ((deletes p ts ++ inserts r Xs) ++ ms)) ≡ length ts + length Xs + length (edits ms)
-edits-correction p r ts Xs ms =
+-- A correction lists a record for each token that it deletes and each symbol that it inserts, none for a symbol that it drops,
+pub edits-correction : (p r : ℕ) (ts : List ℕ) (ps : List Pop) (ms : List Move)
+    → length (edits ((deletes p ts ++ pops r ps) ++ ms)) ≡ length ts + length (missingOf ps) + length (edits ms)
+edits-correction p r ts ps ms =
     omega (
       arith,
-      ap length (edits-append (deletes p ts ++ inserts r Xs) ms),
-      length-append (edits (deletes p ts ++ inserts r Xs)) (edits ms),
-      ap length (edits-append (deletes p ts) (inserts r Xs)),
-      length-append (edits (deletes p ts)) (edits (inserts r Xs)),
+      ap length (edits-append (deletes p ts ++ pops r ps) ms),
+      length-append (edits (deletes p ts ++ pops r ps)) (edits ms),
+      ap length (edits-append (deletes p ts) (pops r ps)),
+      length-append (edits (deletes p ts)) (edits (pops r ps)),
       edits-deletes p ts,
-      edits-inserts r Xs,
+      edits-pops r ps,
     )
 
 -- Of moves one behind another the rule numbers stand one behind another.
@@ -134,18 +144,19 @@ unfolding ruleNumbers deletes
 rules-deletes p [] = refl
 rules-deletes p (t ∷ ts) = rules-deletes (p + 1) ts
 
-rules-inserts : (r : ℕ) (Xs : List ℕ) → ruleNumbers (inserts r Xs) ≡ []
-unfolding ruleNumbers inserts
-rules-inserts r [] = refl
-rules-inserts r (X ∷ Xs) = rules-inserts r Xs
+rules-pops : (r : ℕ) (ps : List Pop) → ruleNumbers (pops r ps) ≡ []
+unfolding ruleNumbers pops
+rules-pops r [] = refl
+rules-pops r (Pop.dropped X ∷ ps) = rules-pops r ps
+rules-pops r (Pop.inserted X ∷ ps) = rules-pops r ps
 
 -- and no rule number.
-pub rules-correction : (p r : ℕ) (ts Xs : List ℕ) (ms : List Move)
-    → ruleNumbers ((deletes p ts ++ inserts r Xs) ++ ms) ≡ ruleNumbers ms
-rules-correction p r ts Xs ms =
-    let e : ruleNumbers (deletes p ts ++ inserts r Xs) ≡ [] =
-    cc (rules-append (deletes p ts) (inserts r Xs), rules-deletes p ts, rules-inserts r Xs) in
-    rules-append (deletes p ts ++ inserts r Xs) ms ∙ ap (λ l. l ++ ruleNumbers ms) e
+pub rules-correction : (p r : ℕ) (ts : List ℕ) (ps : List Pop) (ms : List Move)
+    → ruleNumbers ((deletes p ts ++ pops r ps) ++ ms) ≡ ruleNumbers ms
+rules-correction p r ts ps ms =
+    let e : ruleNumbers (deletes p ts ++ pops r ps) ≡ [] =
+    cc (rules-append (deletes p ts) (pops r ps), rules-deletes p ts, rules-pops r ps) in
+    rules-append (deletes p ts ++ pops r ps) ms ∙ ap (λ l. l ++ ruleNumbers ms) e
 
 -- A record is three words.
 pub edit-words-length : (es : List Edit) → length (editWords es) ≡ 3 * length es

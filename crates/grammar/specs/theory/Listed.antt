@@ -55,8 +55,8 @@ module _ (G : Grammar) (N R : ℕ) (good : Good G N R) where
     on-match = λ p X t k σ ρ ms h. listed-match X t k (length (ruleNumbers ms)) σ ρ h;
     on-expand = λ p A t k β σ ρ ms l n h. listed-expand A t k (length (ruleNumbers ms)) β σ ρ n h;
     on-drop = λ X k σ ρ ms h. h;
-    on-correct = λ p j i σ ρ ms l h b.
-        subst (λ n. n ≤ listedLeft N σ ρ) (sym (ap length (rules-correction p (p + j) (take j ρ) (take i σ) ms)))
+    on-correct = λ p j i σ ρ ps ms l h c b.
+        subst (λ n. n ≤ listedLeft N σ ρ) (sym (ap length (rules-correction p (p + j) (take j ρ) ps ms)))
         (listed-correct j i (length (ruleNumbers ms)) σ ρ h b);
   }
 

@@ -26,7 +26,7 @@ use lib.ListN.{length, getD, take, drop, length-drop}
 use Rattle.grammar.specs.Words.{END}
 use Rattle.grammar.specs.Grammar.{Grammar}
 use Rattle.grammar.specs.Moves.{Move, Edit, edits}
-use Rattle.grammar.specs.Run.{Pick, Choice, State, Limits, Run, started, next, made, deletes, inserts}
+use Rattle.grammar.specs.Run.{Pop, Pick, Choice, State, Limits, Run, started, next, made, deletes, pops}
 use Rattle.grammar.specs.Pace.{Kept}
 use Rattle.grammar.specs.declared.Refusal.{Refusal}
 use Rattle.grammar.specs.theory.States.{state}
@@ -44,10 +44,11 @@ pub data Walk : ℕ → List ℕ → List Move → Type 0 where
   deleted : {p t : ℕ} {ts : List ℕ} {ms : List Move} → Walk (p + 1) ts ms → Walk p (t ∷ ts) (Move.delete p t ∷ ms)
   inserted : {p X : ℕ} {ts : List ℕ} {ms : List Move} → 0 < length ts → Walk p ts ms → Walk p ts (Move.insert p X ∷ ms)
 
-walk-inserts : {r : ℕ} {ts : List ℕ} {ms : List Move} (Xs : List ℕ) → 0 < length ts → Walk r ts ms → Walk r ts (inserts r Xs ++ ms)
-unfolding inserts
-walk-inserts [] l w = w
-walk-inserts (X ∷ Xs) l w = Walk.inserted l (walk-inserts Xs l w)
+walk-pops : {r : ℕ} {ts : List ℕ} {ms : List Move} (ps : List Pop) → 0 < length ts → Walk r ts ms → Walk r ts (pops r ps ++ ms)
+unfolding pops
+walk-pops [] l w = w
+walk-pops (Pop.dropped X ∷ ps) l w = Walk.dropped (walk-pops ps l w)
+walk-pops (Pop.inserted X ∷ ps) l w = Walk.inserted l (walk-pops ps l w)
 
 walk-deletes : {ms : List Move} (p j : ℕ) (ts : List ℕ) → j ≤ length ts → Walk (p + j) (drop j ts) ms
     → Walk p ts (deletes p (take j ts) ++ ms)
@@ -64,10 +65,10 @@ unfolding next made
 walk-step p k l (Choice.match e) w = Walk.matched w
 walk-step p k l (Choice.expand r f) w = Walk.expanded w
 walk-step p k l (Choice.pass f n) w = Walk.dropped w
-walk-step {σ = σ} {ρ = ρ} {ms = ms} p k l (Choice.correct {j = j} {i = i} n x) w =
+walk-step {ρ = ρ} {ms = ms} p k l (Choice.correct {j = j} {ps = ps} n x y) w =
     let more : 0 < length (drop j ρ) = omega (arith, length-drop j ρ, x .within) in
-    subst (λ ns. Walk p ρ ns) (sym (append-assoc (deletes p (take j ρ)) (inserts (p + j) (take i σ)) ms))
-    (walk-deletes p j ρ (omega (arith, x .within)) (walk-inserts (take i σ) more w))
+    subst (λ ns. Walk p ρ ns) (sym (append-assoc (deletes p (take j ρ)) (pops (p + j) ps) ms))
+    (walk-deletes p j ρ (omega (arith, x .within)) (walk-pops ps more w))
 
 walk-from : {G : Grammar} {L : Limits} {s : State} {ms : List Move} {o : Option Refusal} → Run G L s ms o → o ≡ none
     → Walk (s .place) (s .rest) ms

@@ -11,7 +11,7 @@ use Rattle.grammar.specs.Words.{END}
 use Rattle.grammar.specs.Derivation.{Rules, Derives, All}
 use Rattle.grammar.specs.Grammar.{Grammar}
 use Rattle.grammar.specs.Moves.{Move, logToken, repaired, passed, placed}
-use Rattle.grammar.specs.Run.{Pick, Choice, State, Limits, Run, started, next, made, deletes, inserts}
+use Rattle.grammar.specs.Run.{Pick, Choice, State, Limits, Run, started, next, made, deletes, pops}
 use Rattle.grammar.specs.declared.Refusal.{Refusal}
 use Rattle.grammar.specs.theory.Leftmost.{Der, split, to-der, of-der, der-append, der-refl}
 use Rattle.grammar.specs.theory.Good.{Good, known-not-end}
@@ -19,7 +19,8 @@ use Rattle.grammar.specs.theory.Forms.{Ended, ended-nonempty, some-end, 
 use Rattle.grammar.specs.theory.Chosen.{dropped-empty}
 use Rattle.grammar.specs.theory.States.{LogToken, state, Live, choice-some, ended-drop, live-start, live-next}
 use Rattle.grammar.specs.theory.Conditions.{some-none}
-use Rattle.grammar.specs.theory.Folds.{repaired-correction, log-token, passed-correction, placed-split}
+use Rattle.grammar.specs.theory.Pops.{popped-derives}
+use Rattle.grammar.specs.theory.Folds.{missingOf, repaired-correction, log-token, passed-correction, placed-split}
 
 -- The stack derives what the moves leave, with END behind it; or the run is over.
 pub data Derived (R : Rules) (σ : List ℕ) (ms : List Move) : Type 0 where
@@ -63,12 +64,12 @@ module _ (G : Grammar) (N R : ℕ) (good : Good G N R) where
   derived-step p k l (Choice.pass f n) (Live.running s q a) (Live.running u v b) i =
       Derived.form (der-append (G .rules) (to-der (G .rules) (dropped-empty G f n .0)) (formed u i))
   derived-step p k l (Choice.pass f n) (Live.running s q a) (Live.over u v) i = absurd (cons≢nil v)
-  derived-step {σ = σ} {ρ = ρ} {ms = ms} p k l (Choice.correct {j = j} {i = h} n x) (Live.running s q a) w i =
-      let d = der-append (G .rules) (der-refl (G .rules) (take h σ)) (formed (ended-drop h s (x .plausible .within)) i) in
-      let moves = (deletes p (take j ρ) ++ inserts (p + j) (take h σ)) ++ ms in
-      let left : take h σ ++ (repaired ms ++ (END ∷ [])) ≡ repaired moves ++ (END ∷ []) =
-      sym (append-assoc (take h σ) (repaired ms) (END ∷ []))
-      ∙ ap (λ w. w ++ (END ∷ [])) (sym (repaired-correction p (p + j) (take j ρ) (take h σ) ms)) in
+  derived-step {σ = σ} {ρ = ρ} {ms = ms} p k l (Choice.correct {j = j} {i = h} {ps = ps} n x y) (Live.running s q a) w i =
+      let d = der-append (G .rules) (popped-derives y) (formed (ended-drop h s (x .plausible .within)) i) in
+      let moves = (deletes p (take j ρ) ++ pops (p + j) ps) ++ ms in
+      let left : missingOf ps ++ (repaired ms ++ (END ∷ [])) ≡ repaired moves ++ (END ∷ []) =
+      sym (append-assoc (missingOf ps) (repaired ms) (END ∷ []))
+      ∙ ap (λ w. w ++ (END ∷ [])) (sym (repaired-correction p (p + j) (take j ρ) ps ms)) in
       Derived.form (subst₂ (λ u w. Der (G .rules) u w) (take-append-drop h σ) left d)
 
   derived : {L : Limits} {s : State} {ms : List Move} {o : Option Refusal} → Run G L s ms o → o ≡ none
@@ -103,8 +104,8 @@ unfolding next made passed placed
 passed-step G ms p k l (Choice.match {t = t} e) i = ap (λ r. record { place = p; token = t } ∷ r) i
 passed-step G ms p k l (Choice.expand r f) i = i
 passed-step G ms p k l (Choice.pass f n) i = i
-passed-step G {σ = σ} {ρ = ρ} ms p k l (Choice.correct {j = j} {i = h} n x) i =
-    passed-correction p (p + j) (take j ρ) (take h σ) ms
+passed-step G {ρ = ρ} ms p k l (Choice.correct {j = j} {ps = ps} n x y) i =
+    passed-correction p (p + j) (take j ρ) ps ms
     ∙ ap (λ r. placed p (take j ρ) ++ r) i
     ∙ placed-split p j ρ (omega (arith, x .within))
 

@@ -1,21 +1,34 @@
 -- The theorems that document 02 asks to be shown, request by request, in its words. Each is proved here by citing.
 use Prim.Native.Nat.{ℕ, _≤_}
 use mathlib.Core.Path.{_≡_, refl, sym, ap, ap₂, subst, _∙_}
-use mathlib.Core.List.{List}
+use mathlib.Core.List.{List, [], _∷_, List·Memᴰ}
+use mathlib.Core.Logic.{_↔_}
+use mathlib.Core.Option.{none}
 use lib.ListN.{length, take}
+use Rattle.grammar.specs.Words.{nonterminalCount, opening, closing}
+use Rattle.grammar.specs.Derivation.{CanBeEmpty}
+use Rattle.grammar.specs.Grammar.{RuleOf, Verdict, grammarOf}
+use Rattle.grammar.specs.Moves.{Move, edits}
+use Rattle.grammar.specs.Run.{Pop, Choice, correcting, State, started, made, LogFits, RunOf}
+use Rattle.grammar.specs.Pace.{Span, Clean}
 use Rattle.grammar.specs.Buffers.{filled, cleared, Fills}
 use Rattle.grammar.specs.File.{FileRead}
 use Rattle.grammar.specs.Writing.{blocksOf, WordCount, writeConditions, FileWritten}
 use Rattle.grammar.specs.Refusals.{Outcome, given}
+use Rattle.grammar.specs.theory.Answers.{log-tokens}
 use Rattle.grammar.specs.theory.Blocks.{blocks-below}
 use Rattle.grammar.specs.theory.Conditions.{Held, held, all-met, passes}
 use Rattle.grammar.specs.theory.Demands.{Answered}
 use Rattle.grammar.specs.theory.Due.{Due, InOrder}
+use Rattle.grammar.specs.theory.Earlier as Earlier
+use Rattle.grammar.specs.theory.Earlier.{EarlierRun, AsEarlier}
 use Rattle.grammar.specs.theory.Fills.{fills-unique, fills-exactly, fills-zeros, fills-content, front-of}
+use Rattle.grammar.specs.theory.Good.{accepted, good-words}
 use Rattle.grammar.specs.theory.OnlyFile as OnlyFile
 use Rattle.grammar.specs.theory.OnlyFile.{Below}
 use Rattle.grammar.specs.theory.ReadBack.{file-right, file-holds, is-blocks}
 use Rattle.grammar.specs.theory.Refused.{write-in-order}
+use Rattle.grammar.specs.theory.SameCycles as SameCycles
 
 -- ======== (i) Write grammar files too
 
@@ -77,3 +90,41 @@ writer-answers {ws} {room = room} p =
 pub file-written-unique : {ws : List ℕ} {room : ℕ} {a b : Outcome ℕ} {x y : List ℕ} → FileWritten ws room a x
     → FileWritten ws room b y → (a ≡ b) × (x ≡ y)
 file-written-unique p q = fills-unique (p .write) (q .write)
+
+-- ======== (ii) An empty thing is not missing
+
+-- A correction, which deletes j tokens and pops i symbols in state s.
+module _ (ws : List ℕ) (s : State) {j i : ℕ} {ps : List Pop} (chosen : Choice (grammarOf ws) (s .stack) (s .rest) (correcting j i ps)) where
+  -- "A popped symbol that can be empty becomes a drop move, with no edit record": each symbol that it drops derives the empty string,
+  pub drops-empty : (X : ℕ) → List·Memᴰ (Move.drop X) (made s (correcting j i ps)) → CanBeEmpty (RuleOf ws) (X ∷ [])
+  drops-empty X m = Earlier.drops-empty (grammarOf ws) s chosen m
+
+  -- and none that it inserts does.
+  pub inserts-missing : (r X : ℕ) → List·Memᴰ (Move.insert r X) (made s (correcting j i ps)) → CanBeEmpty (RuleOf ws) (X ∷ []) → ⊥
+  inserts-missing r X m = Earlier.inserts-missing (grammarOf ws) s chosen m
+
+  -- "A correction still leaves at least one record."
+  pub correction-leaves-record : 1 ≤ length (edits (made s (correcting j i ps)))
+  correction-leaves-record = Earlier.leaves-record (grammarOf ws) s chosen
+
+-- The run of a log by 01's rule, in which a correction inserts each symbol that it pops.
+abbrev pub EarlierRunOf : List ℕ → List ℕ → List Move → Type 0
+EarlierRunOf ws log = EarlierRun (grammarOf ws) (started (grammarOf ws .begin) log)
+
+module _ (ws log : List ℕ) (accepts : Verdict ws none) (fits : LogFits ws log) {editRoom ruleRoom : ℕ} {ms : List Move}
+    (run : RunOf ws log editRoom ruleRoom ms none) where
+  -- "Costs, r and i stay as they are, and so do the move counts": a run that ended has one by 01's rule beside it, with as many moves, the
+  -- same rule numbers and tokens passed, the same clean cycles, and "the shorter list" of records;
+  pub as-earlier : (ns : List Move) × EarlierRunOf ws log ns × AsEarlier (grammarOf ws) ms ns
+  as-earlier = SameCycles.as-earlier log run
+
+  -- and every one by 01's rule is so.
+  pub as-every-earlier : (ns : List Move) → EarlierRunOf ws log ns → AsEarlier (grammarOf ws) ms ns
+  as-every-earlier ns before =
+      SameCycles.as-every-earlier (grammarOf ws) (nonterminalCount ws) 8 (good-words ws (accepted accepts))
+      (log-tokens (record { words = accepted accepts; fits = fits })) run before
+
+  -- "The test for a clean cycle" comes out as it did.
+  pub same-cycles-clean : (ns : List Move) → EarlierRunOf ws log ns → (s : Span)
+      → Clean (opening ws) (closing ws) ms s ↔ Clean (opening ws) (closing ws) ns s
+  same-cycles-clean ns before = as-every-earlier ns before .clean (opening ws) (closing ws)

@@ -73,8 +73,8 @@ limit-wider L s u (expanding p β) e =
     (cond (leb n (L .ruleRoom + u .listed)) none (some NoRoom))
     (λ h. let l = fitted n (L .ruleRoom) h in fits n (L .ruleRoom + u .listed) (omega arith)) e
 limit-wider L s u dropping e = refl
-limit-wider L s u (correcting j i) e =
-    let n = 3 * next s (correcting j i) .records in
+limit-wider L s u (correcting j i ps) e =
+    let n = 3 * next s (correcting j i ps) .records in
     let l = fitted n (L .editRoom) e in
     fits n (L .editRoom + 3 * u .records) (omega arith)
 
@@ -87,8 +87,8 @@ limit-lifted L s (expanding p β) e =
     full-or-room (ltb (L .height) (length (next s (expanding p β) .stack))) (cond (leb n (L .ruleRoom)) none (some NoRoom))
     (cond (leb n (L .ruleRoom + n)) none (some NoRoom)) (λ h. fits n (L .ruleRoom + n) (omega arith)) e
 limit-lifted L s dropping e = absurd (some-none refl e)
-limit-lifted L s (correcting j i) e =
-    let n = 3 * next s (correcting j i) .records in
+limit-lifted L s (correcting j i ps) e =
+    let n = 3 * next s (correcting j i ps) .records in
     fits n (L .editRoom + n) (omega arith)
 
 -- Refusal 12 says which buffer is too short.
@@ -101,7 +101,7 @@ too-short L s (expanding p β) e =
     inr (unfitted n (L .ruleRoom)
     (below-full (ltb (L .height) (length (next s (expanding p β) .stack))) (cond (leb n (L .ruleRoom)) none (some NoRoom)) e))
 too-short L s dropping e = absurd (some-none refl e)
-too-short L s (correcting j i) e = inl (unfitted (3 * next s (correcting j i) .records) (L .editRoom) e)
+too-short L s (correcting j i ps) e = inl (unfitted (3 * next s (correcting j i ps) .records) (L .editRoom) e)
 
 path-wider : {G : Grammar} {L : Limits} {s v : State} {ms : List Move} (u : State) → Path G L s ms v → Path G (wider L u) s ms v
 path-wider u Path.still = Path.still

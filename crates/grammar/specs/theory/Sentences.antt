@@ -12,7 +12,7 @@ use Rattle.grammar.specs.Derivation.{Rules, Step, Derives, First, Follow
 use Rattle.grammar.specs.Cost.{ListCost}
 use Rattle.grammar.specs.Grammar.{RuleOf, Reliable, Verdict, grammarOf, startOverEnd}
 use Rattle.grammar.specs.Moves.{Move}
-use Rattle.grammar.specs.Run.{Hit, Choice, expanding, dropping, correcting, State, Limits, started, LogFits, runConditions}
+use Rattle.grammar.specs.Run.{Hit, Pop, Choice, expanding, dropping, correcting, State, Limits, started, LogFits, runConditions}
 use Rattle.grammar.specs.Run.{RunOf, Parses, Parsed}
 use Rattle.grammar.specs.Refusals.{Outcome, refused}
 use Rattle.grammar.specs.File.{FileRead}
@@ -25,7 +25,7 @@ use Rattle.grammar.specs.theory.Good.{accepted, good-words}
 use Rattle.grammar.specs.theory.Paths.{Path}
 use Rattle.grammar.specs.theory.Exists as Exists
 use Rattle.grammar.specs.theory.Exists.{Ending}
-use Rattle.grammar.specs.theory.Decided.{decFirstOf, decReliableOf}
+use Rattle.grammar.specs.theory.Decided.{decFirstOf, decEmptyOf, decReliableOf}
 use Rattle.grammar.specs.theory.Predictive as Predictive
 use Rattle.grammar.specs.theory.Chosen as Chosen
 use Rattle.grammar.specs.theory.Token as Token
@@ -60,19 +60,19 @@ first-or-follow ws v A t c f w =
 -- ======== The run
 
 -- "Otherwise t is in error and nothing has moved for it": behind an expand or a drop for t no correction follows at t.
-pub nothing-moved-in-error : (ws : List ℕ) {X t p j i : ℕ} {β σ ρ : List ℕ}
-    → (Choice (grammarOf ws) (X ∷ σ) (t ∷ ρ) (expanding p β) → Choice (grammarOf ws) (β ++ σ) (t ∷ ρ) (correcting j i) → ⊥)
-    × (Choice (grammarOf ws) (X ∷ σ) (t ∷ ρ) dropping → Choice (grammarOf ws) σ (t ∷ ρ) (correcting j i) → ⊥)
+pub nothing-moved-in-error : (ws : List ℕ) {X t p j i : ℕ} {β σ ρ : List ℕ} {ps : List Pop}
+    → (Choice (grammarOf ws) (X ∷ σ) (t ∷ ρ) (expanding p β) → Choice (grammarOf ws) (β ++ σ) (t ∷ ρ) (correcting j i ps) → ⊥)
+    × (Choice (grammarOf ws) (X ∷ σ) (t ∷ ρ) dropping → Choice (grammarOf ws) σ (t ∷ ρ) (correcting j i ps) → ⊥)
 nothing-moved-in-error ws = (
   λ expand correct. Token.in-error correct (Token.expanded-fits expand),
   λ drop correct. Token.in-error correct (Token.dropped-fits drop),
 )
 
--- What a correction inserts costs strictly less than the reliability of token r, unless that is END.
-pub inserts-below-reliability : (ws : List ℕ) {σ ρ : List ℕ} {j i : ℕ} → Choice (grammarOf ws) σ ρ (correcting j i)
+-- What a correction pops costs strictly less than the reliability of token r, unless that is END.
+pub pops-below-reliability : (ws : List ℕ) {σ ρ : List ℕ} {j i : ℕ} {ps : List Pop} → Choice (grammarOf ws) σ ρ (correcting j i ps)
     → (getD ρ j END ≡ END → ⊥)
     → (c : ℕ) × ListCost (RuleOf ws) (grammarOf ws .price) (take i σ) c × (c < reliability ws (getD ρ j END))
-inserts-below-reliability ws chosen n =
+pops-below-reliability ws chosen n =
     let p = Chosen.correction-hit (grammarOf ws) chosen .plausible in (p .cost, p .costs, strictly n (p .below))
   where
     strictly : {c t : ℕ} → (t ≡ END → ⊥) → Reliable ws c t → c < reliability ws t
@@ -91,14 +91,16 @@ module _ (ws log : List ℕ) (passes : Verdict ws none) (fits : LogFits ws log) 
   pub run-exists : (editRoom ruleRoom : ℕ) → (ms : List Move) × (o : Option Refusal) × RunOf ws log editRoom ruleRoom ms o × Ending o
   run-exists editRoom ruleRoom =
       Exists.run-exists (grammarOf ws) (nonterminalCount ws) 8 (good-words ws (accepted passes))
-      (decFirstOf ws (accepted passes)) (decReliableOf ws) _ (Answers.log-tokens (record { words = accepted passes; fits = fits }))
+      (decFirstOf ws (accepted passes)) (decEmptyOf ws (accepted passes)) (decReliableOf ws) _
+      (Answers.log-tokens (record { words = accepted passes; fits = fits }))
 
   -- "An r always exists": in every state u that a run comes to before its end there is a hit.
   pub hit-exists : {L : Limits} {ms : List Move} {u : State} → Path (grammarOf ws) L (started startOverEnd log) ms u
       → (u .rest ≡ [] → ⊥) → (j i : ℕ) × Hit (grammarOf ws) (u .stack) (u .rest) j i
   hit-exists path more =
       Exists.hit-on-path (grammarOf ws) (nonterminalCount ws) 8 (good-words ws (accepted passes))
-      (decFirstOf ws (accepted passes)) (decReliableOf ws) (Answers.log-tokens (record { words = accepted passes; fits = fits })) path more
+      (decFirstOf ws (accepted passes)) (decEmptyOf ws (accepted passes)) (decReliableOf ws)
+      (Answers.log-tokens (record { words = accepted passes; fits = fits })) path more
 
 -- How long buffers need to be, whatever the grammar, so that "the next rule number or edit record" always fits: for a log of n tokens,
 -- 3 x (2 + n + 512 x n) words for edits and 64 x n for rules. Parser and report then never give 12.

@@ -43,7 +43,7 @@ pub choice-some : {G : Grammar} {σ ρ : List ℕ} {x : Pick} → Choice G σ ρ
 choice-some (Choice.match h) e = cons≢nil e
 choice-some (Choice.expand r f) e = cons≢nil e
 choice-some (Choice.pass f n) e = cons≢nil e
-choice-some (Choice.correct n x) e = cons≢nil e
+choice-some (Choice.correct n x y) e = cons≢nil e
 
 -- What is left of such a list without its first members is such a list,
 pub ended-drop : {P : ℕ → Type 0} {α : List ℕ} (i : ℕ) → Ended P α → i < length α → Ended P (drop i α)
@@ -99,7 +99,7 @@ module _ (G : Grammar) (N R : ℕ) (good : Good G N R) where
   running-next p k l (Choice.match h) s e a = live-match h s e a
   running-next p k l (Choice.expand r f) s e a = live-expand r s e a
   running-next p k l (Choice.pass f n) s e a = live-drop (dropped-empty G f n .0) s e a
-  running-next p k l (Choice.correct n x) s e a = live-correct x s e a
+  running-next p k l (Choice.correct n x y) s e a = live-correct x s e a
 
   live-after : {σ ρ : List ℕ} {x : Pick} (p k l : ℕ) → Choice G σ ρ x → Live G σ ρ
       → Live G (next (state σ p ρ k l) x .stack) (next (state σ p ρ k l) x .rest)

@@ -7,7 +7,7 @@ use native.Mathlib.Omega.{arith}
 use Rattle.grammar.specs.Words.{Terminal}
 use Rattle.grammar.specs.Derivation.{First, CanBeEmpty}
 use Rattle.grammar.specs.Grammar.{Grammar}
-use Rattle.grammar.specs.Run.{Pick, Choice, matching, expanding, dropping, correcting}
+use Rattle.grammar.specs.Run.{Pop, Pick, Choice, matching, expanding, dropping, correcting}
 use Rattle.grammar.specs.theory.Leftmost.{Der, of-der}
 use Rattle.grammar.specs.theory.Good.{Good}
 use Rattle.grammar.specs.theory.Forms.{At, at-down, at-rest}
@@ -30,7 +30,7 @@ expands [] = 0
 expands (matching ∷ xs) = expands xs
 expands (expanding p β ∷ xs) = suc (expands xs)
 expands (dropping ∷ xs) = expands xs
-expands (correcting j i ∷ xs) = expands xs
+expands (correcting j i ps ∷ xs) = expands xs
 
 zero-one : _≡_ {A = ℕ} 0 1 → ⊥
 zero-one e = omega arith
@@ -52,8 +52,8 @@ pub dropped-fits : {G : Grammar} {X t : ℕ} {σ ρ : List ℕ} → Choice G (X 
 dropped-fits c = drop-by c .1
 
 -- A correction is made only where the token is in error.
-pub in-error : {G : Grammar} {t j i : ℕ} {σ ρ : List ℕ} → Choice G σ (t ∷ ρ) (correcting j i) → First (G .rules) σ t → ⊥
-in-error (Choice.correct n x) f = n f
+pub in-error : {G : Grammar} {t j i : ℕ} {σ ρ : List ℕ} {ps : List Pop} → Choice G σ (t ∷ ρ) (correcting j i ps) → First (G .rules) σ t → ⊥
+in-error (Choice.correct n x y) f = n f
 
 module _ (G : Grammar) (N R : ℕ) (good : Good G N R) where
   eaten-of : (f : ℕ) {t n : ℕ} {σ δ : List ℕ} → n ≤ f → Reach (G .rules) t σ n δ → Terminal t → At G σ → (ρ : List ℕ)
