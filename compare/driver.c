@@ -42,6 +42,10 @@ int main(void) {
             take_sizes(2), take(0, 2), take(1, 1);
             mean[0] = 0;
             status = odhrashup_write(lent[0], sizes[0], lent[1], sizes[1], counts, 3);
+        } else if (kind == 5) {
+            take_sizes(3), take(0, 2), take(1, 2), take(2, 2);
+            mean[0] = 0;
+            status = odhrashup_costs(lent[0], sizes[0], lent[1], sizes[1], lent[2], sizes[2], counts, 3);
         } else {
             take_sizes(5), take(0, 2), take(1, 2), take(2, 4), take(3, 2), take(4, 2);
             status = odhrashup_pace(lent[0], sizes[0], lent[1], sizes[1], lent[2], sizes[2], lent[3], sizes[3], lent[4],
@@ -52,6 +56,7 @@ int main(void) {
         if (kind == 2) give(2, 2), give(3, 2);
         if (kind == 3) give(3, 2), give(4, 2);
         if (kind == 4) give(1, 1);
+        if (kind == 5) give(1, 2), give(2, 2);
         fflush(stdout);
     }
     return 0;

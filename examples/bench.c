@@ -1,4 +1,4 @@
-/* A bench that links the library: each function once, then an idle station and five refusals. `examples/bench` builds and runs it; on an
+/* A bench that links the library: each function once, then an idle station and six refusals. `examples/bench` builds and runs it; on an
  * x86-64 Linux that is
  *
  *    ./library
@@ -27,6 +27,7 @@ static void show(const char *what, uint32_t status, const uint64_t *counts, cons
 int main(void) {
     static uint8_t file[ODHRASHUP_BYTES_ENOUGH];
     static uint16_t words[ODHRASHUP_WORDS_ENOUGH], edits[ODHRASHUP_EDITS_LENT], rules[ODHRASHUP_RULES_LENT];
+    uint16_t costs[ODHRASHUP_NONTERMINALS_ENOUGH], cheapest[ODHRASHUP_NONTERMINALS_ENOUGH];
     uint64_t counts[ODHRASHUP_PARSE_COUNTS];
     double mean[1];
 
@@ -45,6 +46,12 @@ int main(void) {
     printf("read: status %u, %zu words\n", status, n);
 
     printf("check: status %u\n", odhrashup_check(words, n));
+
+    /* What inserting each nonterminal costs, and the lowest-numbered rule that reaches it. */
+    status = odhrashup_costs(words, n, costs, LEN(costs), cheapest, LEN(cheapest), counts, LEN(counts));
+    printf("costs: status %u, %llu nonterminals\n", status, (unsigned long long)counts[ODHRASHUP_COSTS_NONTERMINALS]);
+    for (uint64_t k = 0; k < counts[ODHRASHUP_COSTS_NONTERMINALS]; k++)
+        printf("  symbol %u costs %u by rule %u\n", 64 + (unsigned)k, costs[k], cheapest[k]);
 
     status = odhrashup_parse(words, n, log, LEN(log), edits, LEN(edits), rules, LEN(rules), counts, LEN(counts));
     printf("parse: status %u, %llu moves, %llu edits, %llu rules\n", status, (unsigned long long)counts[ODHRASHUP_PARSE_MOVES],
@@ -82,5 +89,8 @@ int main(void) {
     printf("no words: refused %u\n", odhrashup_check(words, 0));
     status = odhrashup_write(grammar, LEN(grammar), file, ODHRASHUP_BYTES_FOR(LEN(grammar)) - 1, counts, LEN(counts));
     printf("a byte too few: refused %u, %llu bytes\n", status, (unsigned long long)counts[ODHRASHUP_WRITE_BYTES]);
+    status = odhrashup_costs(grammar, LEN(grammar), costs, LEN(costs), cheapest, 3, counts, LEN(counts));
+    printf("room for three rules: refused %u, %llu nonterminals, cleared %d\n", status,
+           (unsigned long long)counts[ODHRASHUP_COSTS_NONTERMINALS], costs[1] == 0 && cheapest[0] == 0);
     return 0;
 }

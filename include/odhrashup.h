@@ -8,10 +8,10 @@
  * Calls share no state and keep nothing: they may run at the same time in several threads, as long as no call writes what another
  * reads or writes. They allocate nothing and open nothing.
  *
- * Stack: less than 1 KiB for odhrashup_read and odhrashup_write, 4 KiB for odhrashup_check, 20 KiB for odhrashup_parse and
- * odhrashup_pace, whatever the input. (Measured, not proved: 104, 184, 2,760, 16,360 and 16,424 bytes.)
+ * Stack: less than 1 KiB for odhrashup_read and odhrashup_write, 4 KiB for odhrashup_check and odhrashup_costs, 20 KiB for
+ * odhrashup_parse and odhrashup_pace, whatever the input. (Measured, not proved: 104, 184, 3,016, 3,048, 16,616 and 16,680 bytes.)
  *
- * Each function answers a status: 0, ODHRASHUP_IDLE, or the number of a refusal, 1 to 14:
+ * Each function answers a status: 0, ODHRASHUP_IDLE, or the number of a refusal, 1 to 14 or 23:
  *    1 file empty, not a multiple of 512, or over 5,632 bytes      7 a nonterminal derives no terminal string
  *    2 some block's check is wrong                                 8 a nonterminal costs over 60,000
  *    3 some block number, use count or unused word is wrong        9 two rules share a predict token
@@ -22,12 +22,15 @@
  *                                                                 12 the next rule number or edit record does not fit
  *                                                                 13 there are no words to write, or more than 2,783
  *                                                                 14 the byte buffer is shorter than the file
- * The lowest of 1 to 10, 13 and 14 that applies to a call is given; 11 and 12 come from the first move that meets them.
+ *                                                                 23 the cost or the rule buffer has fewer words than
+ *                                                                    there are nonterminals
+ * The lowest of 1 to 10, 13, 14 and 23 that applies to a call is given; 11 and 12 come from the first move that meets them.
  *
- * What is left in a buffer that is written (words, bytes, edits, rules, counts, mean), in every element of it:
+ * What is left in a buffer that is written (words, bytes, costs, rules, edits, counts, mean), in every element of it:
  *  - after a refusal zeros, and no more;
  *  - otherwise the values named below, and zeros behind them. `counts` and `mean` may be shorter than their values, or empty: they get
- *    those that fit, and this is no refusal. `words`, `bytes`, `edits` and `rules` hold all or the call is refused, by 4, 14 or 12.
+ *    those that fit, and this is no refusal. The others hold all or the call is refused: `words` by 4, `bytes` by 14, `edits` and `rules`
+ *    of a log by 12, `costs` and `rules` of the setup desk by 23.
  *
  * docs/RULES.md has the rules, docs/TRUST.md what is proved of these functions. This header itself is checked by nothing.
  */
@@ -51,6 +54,9 @@ extern "C" {
 
 #define ODHRASHUP_WRITE_BYTES 0 /* odhrashup_write: the number of bytes */
 #define ODHRASHUP_WRITE_COUNTS 1
+
+#define ODHRASHUP_COSTS_NONTERMINALS 0 /* odhrashup_costs: N, the number of nonterminals */
+#define ODHRASHUP_COSTS_COUNTS 1
 
 #define ODHRASHUP_PARSE_MOVES 0 /* odhrashup_parse: moves made */
 #define ODHRASHUP_PARSE_EDITS 1 /* edit records, of three words each */
@@ -81,6 +87,9 @@ extern "C" {
 #define ODHRASHUP_BYTES_FOR(n) ((size_t)512 * (((size_t)(n) + 252) / 253))
 #define ODHRASHUP_BYTES_ENOUGH 5632
 
+/* Enough for the costs and for the rules of every grammar: no more nonterminals are accepted. Refusal 23 cannot be given. */
+#define ODHRASHUP_NONTERMINALS_ENOUGH 64
+
 /* Enough for a log of n tokens, n at most ODHRASHUP_MOST_TOKENS, whatever the grammar: that refusal 12 is never given with these is
  * proved. A record for each of at most 2 + n + 8 x 64 x n moves, and 64 rules for each token. For 4,096 tokens that are 6,303,750 words
  * (13 MB) and 262,144 words. */
@@ -105,6 +114,13 @@ uint32_t odhrashup_write(const uint16_t *words, size_t words_len, uint8_t *bytes
 
 /* Checks grammar words. Status 0 where they are accepted, or 5 to 9. */
 uint32_t odhrashup_check(const uint16_t *words, size_t words_len);
+
+/* Tells the setup desk which rule is the cheap one. Status 0, 5 to 9, or 23; the grammar words need not have been checked.
+ * counts[ODHRASHUP_COSTS_NONTERMINALS] is N. For k below N costs[k] is what nonterminal 64 + k costs, at most 60,000, and rules[k] its
+ * lowest-numbered rule whose right side costs just that; rules are numbered from 0 over the whole grammar. N words in each buffer are
+ * enough. */
+uint32_t odhrashup_costs(const uint16_t *words, size_t words_len, uint16_t *costs, size_t costs_len, uint16_t *rules,
+                         size_t rules_len, uint64_t *counts, size_t counts_len);
 
 /* Repairs a log. Status 0, or 5 to 12; the grammar words need not have been checked. `edits` gets the edit records in the order of
  * the moves, `rules` the numbers of the rules applied, `counts` the three of ODHRASHUP_PARSE_.. */

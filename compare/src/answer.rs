@@ -1,7 +1,7 @@
-//! What an implementation of document 01, and of requests (i) and (ii) of document 02, answers, besides
+//! What an implementation of document 01, and of requests (i) to (iii) of document 02, answers, besides
 //! the buffers it was lent.
 
-/// A refusal number: 1 to 12 of the table, 13 and 14 of request (i).
+/// A refusal number: 1 to 12 of the table, 13 and 14 of request (i), 23 of request (iii).
 pub type Refusal = u16;
 
 /// Longest log: "over 4,096 tokens" is refusal 10.
@@ -68,6 +68,10 @@ pub trait Implementation {
 
     /// Checks grammar words, refusals 5 to 9.
     fn check(&self, words: &[u16]) -> Result<(), Refusal>;
+
+    /// Gives the setup desk the cost and the cheapest rule of each nonterminal of unchecked words, the
+    /// number of nonterminals as the answer; refusals 5 to 9 and 23.
+    fn costs(&self, words: &[u16], costs: &mut [u16], rules: &mut [u16]) -> Result<usize, Refusal>;
 
     /// Parses a log, refusals 5 to 12.
     fn parse(

@@ -31,6 +31,14 @@ pub fn outcome(implementation: &dyn Prints, input: &Input) -> Outcome {
             let answer = implementation.check(&words);
             (answer.map(|()| Vec::new()), Vec::new())
         }
+        Input::Costs {
+            words,
+            mut costs,
+            mut rules,
+        } => {
+            let answer = implementation.costs(&words, &mut costs, &mut rules);
+            (answer.map(|n| vec![n as u64]), vec![costs, rules])
+        }
         Input::Parse {
             words,
             tokens,

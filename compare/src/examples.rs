@@ -1,7 +1,9 @@
 //! The bench examples of document 01 and its further claims, with the records that request (ii) of
-//! document 02 leaves them, in [`empty_parts`] more examples of that request, and in [`writing`] those of
-//! request (i). The expected results are written by hand from the documents, never taken from a program.
+//! document 02 leaves them, in [`empty_parts`] more examples of that request, in [`writing`] those of
+//! request (i), and in [`cheapest`] those of request (iii). The expected results are written by hand from
+//! the documents, never taken from a program.
 
+pub mod cheapest;
 pub mod empty_parts;
 pub mod writing;
 
@@ -9,6 +11,7 @@ use crate::answer::{Pace, Prints};
 use crate::generate::families::bench_g;
 use crate::generate::file::{file_of, standard_input};
 use crate::generate::Draft;
+use cheapest::eights;
 
 /// One example with everything that is expected of it.
 pub struct Example {
@@ -100,11 +103,6 @@ pub fn all() -> Vec<Example> {
         draft
     };
     let nested = Draft::new(3, 1, &[(0, &[1, 64, 2]), (0, &[])]);
-    let eights = |cost| {
-        let mut draft = Draft::new(2, 2, &[(0, &[65; 8]), (1, &[1; 8])]);
-        draft.terminals[1].0 = cost;
-        draft
-    };
     let case_3_edits = [[INSERT, 2, 3]];
     let case_5 = |name| {
         let edits = [[INSERT, 1, 66], [INSERT, 1, 4]];
@@ -259,6 +257,8 @@ mod tests {
         assert_eq!(failures(&Tuned::default()), Vec::<String>::new());
         assert_eq!(writing::failures(&Plain), Vec::<String>::new());
         assert_eq!(writing::failures(&Tuned::default()), Vec::<String>::new());
+        assert_eq!(cheapest::failures(&Plain), Vec::<String>::new());
+        assert_eq!(cheapest::failures(&Tuned::default()), Vec::<String>::new());
     }
 
     #[test]

@@ -1,7 +1,8 @@
-//! Seeded inputs for every part of document 01 and of request (i): grammars, logs, ticks, grammar
-//! files, standard input, lists of words, texts and lent buffers. Equal seeds give equal inputs.
+//! Seeded inputs for every part of document 01 and of requests (i) and (iii): grammars, logs, ticks,
+//! grammar files, standard input, lists of words, texts and lent buffers. Equal seeds give equal inputs.
 
 pub mod buffers;
+pub mod desk;
 pub mod draft;
 pub mod edges;
 pub mod families;
@@ -12,6 +13,7 @@ pub mod list;
 pub mod log;
 pub mod random;
 pub mod text;
+pub mod ties;
 
 pub use draft::Draft;
 pub use input::{Input, Source};

@@ -97,9 +97,14 @@ impl Library {
     }
 }
 
+/// Whether a status is the number of a refusal: those of 01 and of requests (i) and (iii).
+pub(crate) fn is_refusal(status: u32) -> bool {
+    matches!(status, 1..=14 | 23)
+}
+
 /// A refusal carries no counts and no mean; without one the counts behind those given are zero.
 fn outcome(status: u32, counts: [u64; 3], mean: f64, used: usize) -> Result<[u64; 3], Refusal> {
-    if (1..=14).contains(&status) {
+    if is_refusal(status) {
         assert_eq!(
             (counts, mean.to_bits()),
             ([0; 3], 0),
@@ -153,6 +158,22 @@ impl Implementation for Library {
         driver.ask();
         let (status, counts, mean) = driver.head();
         outcome(status, counts, mean, 0).map(|_| ())
+    }
+
+    fn costs(&self, words: &[u16], costs: &mut [u16], rules: &mut [u16]) -> Result<usize, Refusal> {
+        let mut driver = self.driver.borrow_mut();
+        driver.put_u32(5);
+        for size in [words.len(), costs.len(), rules.len()] {
+            driver.put_u32(size);
+        }
+        for list in [words, costs, rules] {
+            driver.put_u16s(list);
+        }
+        driver.ask();
+        let (status, counts, mean) = driver.head();
+        driver.get_u16s(costs);
+        driver.get_u16s(rules);
+        outcome(status, counts, mean, 1).map(|counts| counts[0] as usize)
     }
 
     fn parse(

@@ -2,7 +2,7 @@
 //! `bench` builds with the feature `linked` and says where the library is.
 
 use crate::answer::{Implementation, Pace, Parsed, Refusal, Report};
-use crate::library::IDLE;
+use crate::library::{is_refusal, IDLE};
 
 extern "C" {
     fn odhrashup_read(
@@ -22,6 +22,16 @@ extern "C" {
         counts_len: usize,
     ) -> u32;
     fn odhrashup_check(words: *const u16, words_len: usize) -> u32;
+    fn odhrashup_costs(
+        words: *const u16,
+        words_len: usize,
+        costs: *mut u16,
+        costs_len: usize,
+        rules: *mut u16,
+        rules_len: usize,
+        counts: *mut u64,
+        counts_len: usize,
+    ) -> u32;
     fn odhrashup_parse(
         words: *const u16,
         words_len: usize,
@@ -56,9 +66,9 @@ extern "C" {
 /// library asks.
 pub struct Linked;
 
-/// A status of 1 to 14 is a refusal.
+/// The answer, or the refusal that a status is.
 fn outcome<A>(status: u32, answer: A) -> Result<A, Refusal> {
-    if (1..=14).contains(&status) {
+    if is_refusal(status) {
         Err(status as Refusal)
     } else {
         Ok(answer)
@@ -102,6 +112,23 @@ impl Implementation for Linked {
 
     fn check(&self, words: &[u16]) -> Result<(), Refusal> {
         outcome(unsafe { odhrashup_check(words.as_ptr(), words.len()) }, ())
+    }
+
+    fn costs(&self, words: &[u16], costs: &mut [u16], rules: &mut [u16]) -> Result<usize, Refusal> {
+        let mut counts = [0];
+        let status = unsafe {
+            odhrashup_costs(
+                words.as_ptr(),
+                words.len(),
+                costs.as_mut_ptr(),
+                costs.len(),
+                rules.as_mut_ptr(),
+                rules.len(),
+                counts.as_mut_ptr(),
+                counts.len(),
+            )
+        };
+        outcome(status, counts[0] as usize)
     }
 
     fn parse(

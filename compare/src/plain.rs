@@ -1,8 +1,9 @@
-//! The plain implementation of document 01 and of requests (i) and (ii) of document 02. It is meant to be
+//! The plain implementation of document 01 and of requests (i) to (iii) of document 02. It is meant to be
 //! read beside the documents: sets are textbook fixpoints, the stack is inspected literally, and comments
 //! in quotes are the documents' own words. Nothing here is made for speed.
 
 mod check;
+mod desk;
 mod grammar;
 mod listing;
 mod pace;
@@ -13,6 +14,7 @@ mod text;
 mod writer;
 
 pub use check::check;
+pub use desk::costs;
 pub use grammar::{Grammar, Rule, END, START};
 pub use listing::listing;
 pub use pace::report;
@@ -42,6 +44,10 @@ impl Implementation for Plain {
 
     fn check(&self, words: &[u16]) -> Result<(), Refusal> {
         check(words).map(|_| ())
+    }
+
+    fn costs(&self, words: &[u16], costs: &mut [u16], rules: &mut [u16]) -> Result<usize, Refusal> {
+        desk::costs(words, costs, rules)
     }
 
     fn parse(

@@ -2,6 +2,7 @@
 //! answers something else than their `stdout` says. On the implementation as it is that is nowhere;
 //! `altered` asks for the same of implementations with one wrong line.
 
+use crate::steps::desk::{self, costs_line};
 use crate::steps::writing::{text_line, write_lines};
 use crate::{plain, steps};
 use std::path::Path;
@@ -26,6 +27,7 @@ pub fn all(crates: &Path) -> io::Result<Vec<Stored>> {
         compare(crates, "test_spelling", texts)?,
         compare(crates, "write_grammar", |text| vec![file_of(text)])?,
         compare(crates, "test_unmade", |text| vec![unmade(text)])?,
+        compare(crates, "test_desk", desks)?,
     ])
 }
 
@@ -186,6 +188,21 @@ fn writes(stdin: &[u8]) -> Vec<String> {
         match kind {
             0 => words[first] = second,
             _ => answers.push(write_lines(&words[..first], usize::from(second))),
+        }
+    }
+    answers
+}
+
+/// The answers of `test_desk`.
+fn desks(stdin: &[u8]) -> Vec<String> {
+    let mut words = vec![0; desk::MOST_WORDS];
+    let mut answers = Vec::new();
+    for [kind, first, second, third] in steps_of(stdin) {
+        let first = usize::from(first);
+        let rooms = [second, third].map(usize::from);
+        match kind {
+            0 => words[first] = second,
+            _ => answers.push(costs_line(&words[..first], rooms[0], rooms[1])),
         }
     }
     answers

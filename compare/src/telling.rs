@@ -3,6 +3,7 @@
 //! come from the plain implementation, as for every stored input. `altered` shows that each wrong
 //! reading is noticed.
 
+pub mod desks;
 mod empties;
 mod grammars;
 pub mod lists;

@@ -4,6 +4,7 @@
 //! The tables stand in a [`Tables`] that the caller keeps, so that nothing is allocated and
 //! nothing large is cleared for a call. Every entry that a call reads was written by it.
 
+mod desk;
 mod entries;
 mod listing;
 mod pace;
@@ -15,6 +16,7 @@ mod stack;
 mod tables;
 mod writer;
 
+pub use desk::costs;
 pub use listing::listing;
 pub use pace::report;
 pub use parse::parse;
@@ -46,6 +48,10 @@ impl Implementation for Tuned {
 
     fn check(&self, words: &[u16]) -> Result<(), Refusal> {
         self.tables.borrow_mut().check(words)
+    }
+
+    fn costs(&self, words: &[u16], costs: &mut [u16], rules: &mut [u16]) -> Result<usize, Refusal> {
+        desk::costs(&mut self.tables.borrow_mut(), words, costs, rules)
     }
 
     fn parse(

@@ -40,6 +40,13 @@ fn plain_and_tuned_agree_on_the_telling_inputs() {
     for input in telling::inputs() {
         assert_eq!(Plain.listing(&input), tuned.listing(&input));
     }
+    for (words, costs, rules) in telling::desks::costs() {
+        let lent = || (vec![9; costs], vec![9; rules]);
+        let (mut one, mut two) = (lent(), lent());
+        let plain = Plain.costs(&words, &mut one.0, &mut one.1);
+        assert_eq!(plain, tuned.costs(&words, &mut two.0, &mut two.1));
+        assert_eq!(one, two);
+    }
     let lists = telling::lists::writes().into_iter();
     for (words, room) in lists.chain(telling::lists::telling_sums()) {
         let (mut one, mut two) = (vec![9; room], vec![9; room]);

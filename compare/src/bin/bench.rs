@@ -18,6 +18,8 @@ use std::time::Instant;
 const LOGS: usize = 16;
 /// How many samples of each figure.
 const SAMPLES: usize = 31;
+/// As many words as costs or rules take at most.
+const MOST_NONTERMINALS: usize = 64;
 /// How many calls make one sample: a read or check is repeated, a log is run once, so that
 /// the processor's branch prediction does not learn it by heart.
 const CALLS: u32 = 50;
@@ -38,8 +40,8 @@ fn main() {
     );
     println!(
         "lent: {LISTING_WORDS} words, {LISTING_EDITS} edit words, {LISTING_RULES} rule words, \
-         with the content of the run before; clearing behind the last word written is part of \
-         every figure"
+         and to the desk {MOST_NONTERMINALS} words twice, with the content of the run before; \
+         clearing behind the last word written is part of every figure"
     );
     bench.read_and_check("G", &g);
     bench.read_and_check("large", &large);
@@ -78,6 +80,24 @@ impl Bench {
         });
         self.row("check", &[words], (CALLS, 1.0), |column, words| {
             let _ = black_box(column.check(black_box(words)));
+        });
+        self.costs_row(&draft.words());
+    }
+
+    /// What the desk is given, in two buffers of as many words as a grammar wants at most.
+    fn costs_row(&self, words: &[u16]) {
+        let old = || [(); 2].map(|()| vec![0xAAAA; MOST_NONTERMINALS]);
+        let mut outcomes = self.columns.iter().map(|column| {
+            let [mut costs, mut rules] = old();
+            let answer = column.costs(words, &mut costs, &mut rules);
+            (answer, costs, rules)
+        });
+        let first = outcomes.next().expect("a column");
+        assert!(outcomes.all(|other| other == first), "the columns differ");
+        let [mut costs, mut rules] = old();
+        self.row("costs", &[words], (CALLS, 1.0), |column, words| {
+            let answer = column.costs(black_box(words), &mut costs, &mut rules);
+            black_box(answer).expect("a grammar that is not refused");
         });
     }
 

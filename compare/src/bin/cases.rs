@@ -1,7 +1,7 @@
-//! Runs the twelve bench examples of document 01, its further claims and the examples of requests (i) and
-//! (ii) on every implementation, against results written by hand. Exits with 1 where one differs.
+//! Runs the twelve bench examples of document 01, its further claims and the examples of requests (i) to
+//! (iii) on every implementation, against results written by hand. Exits with 1 where one differs.
 
-use compare::examples::{self, writing};
+use compare::examples::{self, cheapest, writing};
 use compare::implementations;
 use std::process::ExitCode;
 
@@ -10,10 +10,11 @@ fn main() -> ExitCode {
     for implementation in implementations::all() {
         let mut failures = examples::failures(implementation.as_ref());
         failures.extend(writing::failures(implementation.as_ref()));
+        failures.extend(cheapest::failures(implementation.as_ref()));
         for failure in &failures {
             println!("{}: {failure}", implementation.name());
         }
-        let count = examples::all().len() + writing::all().len();
+        let count = examples::all().len() + writing::all().len() + cheapest::all().len();
         let name = implementation.name();
         println!("{name}: {count} examples, {} differences", failures.len());
         good &= failures.is_empty();

@@ -71,6 +71,7 @@ impl Tally {
             Input::Report { .. } => 3,
             Input::Listing { .. } => 4,
             Input::Write { .. } => unreachable!("write_check has the lists"),
+            Input::Costs { .. } => unreachable!("desk_check has the desk"),
         };
         self.kinds[kind] += 1;
         match outcome.answer {

@@ -26,6 +26,6 @@ pub fn ample(random: &mut Random, needed: usize) -> Vec<u16> {
 }
 
 /// Old content: never zero, so that a word left alone is seen.
-fn old(random: &mut Random, length: usize) -> Vec<u16> {
+pub(super) fn old(random: &mut Random, length: usize) -> Vec<u16> {
     (0..length).map(|_| random.word(1, u16::MAX)).collect()
 }

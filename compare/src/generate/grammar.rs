@@ -255,7 +255,7 @@ fn remove_conflict(draft: &mut Draft) -> Option<()> {
 }
 
 /// Puts rules into any order.
-fn shuffle(random: &mut Random, rules: &mut [(u16, Vec<u16>)]) {
+pub(super) fn shuffle(random: &mut Random, rules: &mut [(u16, Vec<u16>)]) {
     if random.chance(1, 2) {
         rules.sort();
     } else {

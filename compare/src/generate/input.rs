@@ -20,6 +20,11 @@ pub enum Input {
     Check {
         words: Vec<u16>,
     },
+    Costs {
+        words: Vec<u16>,
+        costs: Vec<u16>,
+        rules: Vec<u16>,
+    },
     Parse {
         words: Vec<u16>,
         tokens: Vec<u16>,
@@ -67,8 +72,9 @@ impl Source {
         &self.stock
     }
 
-    /// Input number `index`; it does not depend on the inputs before it. Lists to be written are no
-    /// such inputs: [`Source::write`] has them, so that the others stay what they are.
+    /// Input number `index`; it does not depend on the inputs before it. Lists to be written and grammars
+    /// for the desk are no such inputs: [`Source::write`] and [`Source::desk`] have them, so that the
+    /// others stay what they are.
     pub fn input(&self, index: u64) -> Input {
         let mut random = Random::at(self.seed, index);
         let random = &mut random;
@@ -131,7 +137,7 @@ impl Source {
     }
 
     /// Grammar words for the check: half of them changed at some edge, once or twice.
-    fn words(&self, random: &mut Random) -> Vec<u16> {
+    pub(super) fn words(&self, random: &mut Random) -> Vec<u16> {
         let mut draft = self.draft(random);
         if random.chance(3, 5) {
             edges::change(random, &mut draft);

@@ -1,6 +1,6 @@
 //! What the conditions on a grammar and the parse speak of: reachable, cost, empty, FIRST,
 //! FOLLOW and predict. Each is the textbook fixpoint: start with nothing, apply every rule
-//! until nothing changes.
+//! until nothing changes. The cheapest rules, of request (iii), are read off the costs.
 
 use super::grammar::{is_nonterminal, Grammar, Rule, END, START};
 
@@ -44,6 +44,8 @@ pub struct Sets {
     pub reachable: Vec<bool>,
     /// "that of its cheapest derivable terminal string"; nothing where none is derivable.
     pub cost: Vec<Option<u64>>,
+    /// "the lowest-numbered rule that reaches it", where there is a cost.
+    pub cheapest: Vec<Option<usize>>,
     /// Whether the empty string is derivable.
     pub empty: Vec<bool>,
     pub first: Vec<TerminalSet>,
@@ -58,6 +60,7 @@ impl Sets {
         let mut sets = Sets {
             reachable: vec![false; n],
             cost: vec![None; n],
+            cheapest: vec![None; n],
             empty: vec![false; n],
             first: vec![TerminalSet::EMPTY; n],
             follow: vec![TerminalSet::EMPTY; n],
@@ -65,6 +68,7 @@ impl Sets {
         };
         sets.find_reachable(grammar);
         sets.find_cost(grammar);
+        sets.find_cheapest(grammar);
         sets.find_empty(grammar);
         sets.find_first(grammar);
         sets.find_follow(grammar);
@@ -104,6 +108,19 @@ impl Sets {
             }
             changed
         });
+    }
+
+    /// "The step that gives a nonterminal's cost now also gives the lowest-numbered rule that reaches it":
+    /// the first whose right side costs as much as its left side, once all costs are found. While they
+    /// still fall, a rule that will reach the cost may be dearer than another.
+    fn find_cheapest(&mut self, grammar: &Grammar) {
+        for (number, rule) in grammar.rules.iter().enumerate() {
+            let k = index(rule.left);
+            let reaches = self.cost[k].is_some() && self.cost_of(&rule.right) == self.cost[k];
+            if reaches && self.cheapest[k].is_none() {
+                self.cheapest[k] = Some(number);
+            }
+        }
     }
 
     /// A nonterminal can be empty when all symbols of one of its right sides can.

@@ -6,13 +6,13 @@ use mathlib.Core.List.{List, [], _∷_}
 use mathlib.Core.Logic.{⊎-elim}
 use native.Mathlib.Omega.{arith}
 use lib.ListN.{length, getD, take}
-use Rattle.grammar.specs.Derivation.{Rules, All}
-use Rattle.grammar.specs.Cost.{SymbolCost, ListCost}
+use Rattle.grammar.specs.Derivation.{All}
+use Rattle.grammar.specs.Cost.{SymbolCost}
 use Rattle.grammar.specs.Run.{Plausible}
 use Rattle.grammar.specs.theory.Closed.{total}
-use Rattle.grammar.specs.theory.Chosen.{list-cost-unique}
+use Rattle.grammar.specs.theory.Costing.{list-cost-unique, list-cost-sum}
 use Rattle.grammar.specs.theory.Members.{all-get, all-map}
-use Rattle.grammar.specs.theory.Tables.{Sized, SymbolOf}
+use Rattle.grammar.specs.theory.Tables.{Sized, SymbolOf, limitBy}
 use Rattle.moves.specs.Tests.{beginsBy, le-or-lt}
 use Rattle.moves.specs.Pile.{pile, pile-length, pile-at}
 use Rattle.correction.specs.Tokens.{token-high}
@@ -80,13 +80,6 @@ all-take zero a = All.nothing
 all-take (suc i) All.nothing = All.nothing
 all-take (suc i) (All.also h a) = All.also h (all-take i a)
 
--- The cost of a list of known symbols is the sum over them.
-list-cost : {R : Rules} {price : ℕ → ℕ} (prices : List ℕ) {α : List ℕ} → All (λ X. SymbolCost R price X (costBy prices X)) α
-    → ListCost R price α (total (costBy prices) α)
-unfolding total
-list-cost prices All.nothing = ListCost.nothing
-list-cost prices (All.also h a) = ListCost.also h (list-cost prices a) refl
-
 -- The walk: i symbols are passed, at this cost, and none of them suits.
 pub record Walked (S : Sized) (prices σ : List ℕ) (t i cost : ℕ) : Type 0 where
   pub within : i ≤ length σ
@@ -108,7 +101,7 @@ module _ {S : Sized} {log masks prices : List ℕ} (known : Known S log masks pr
   small i = omega (arith, bounded i)
 
   -- A symbol that begins with t, at a cost below its reliability: a correction can use t.
-  pub usable : (i : ℕ) → i < length σ → beginsBy masks (getD σ i 0) t ≡ true → paid prices σ i < getD prices (128 + t) 0
+  pub usable : (i : ℕ) → i < length σ → beginsBy masks (getD σ i 0) t ≡ true → paid prices σ i < limitBy prices t
       → Plausible (S .grammar) σ t i
   unfolding paid
   usable i l b m =
@@ -116,7 +109,7 @@ module _ {S : Sized} {log masks prices : List ℕ} (known : Known S log masks pr
         within = l;
         first = begins-first known (getD σ i 0) t (all-get inner i l) (omega (arith, token, known .terminals-high)) b;
         cost = total (costBy prices) (take i σ);
-        costs = list-cost prices (costed i);
+        costs = list-cost-sum (S .grammar .rules) (S .grammar .price) (costBy prices) (costed i);
         below = known .shared .limit t token (paid prices σ i) (small i) .0 m;
       }
 
@@ -125,10 +118,11 @@ module _ {S : Sized} {log masks prices : List ℕ} (known : Known S log masks pr
   not-begun i b p = true≢false (sym (first-begins known (getD σ i 0) t (all-get inner i (p .within)) (p .first)) ∙ b)
 
   -- and none below a cost that is too high.
-  pub too-dear : (i k : ℕ) → getD prices (128 + t) 0 ≤ paid prices σ i → i ≤ k → Plausible (S .grammar) σ t k → ⊥
+  pub too-dear : (i k : ℕ) → limitBy prices t ≤ paid prices σ i → i ≤ k → Plausible (S .grammar) σ t k → ⊥
   unfolding paid
   too-dear i k m l p =
-      let e = list-cost-unique (S .grammar .rules) (S .grammar .price) (p .costs) (list-cost prices (costed k)) in
+      let sum = list-cost-sum (S .grammar .rules) (S .grammar .price) (costBy prices) (costed k) in
+      let e = list-cost-unique (S .grammar .rules) (S .grammar .price) (p .costs) sum in
       let h = known .shared .limit t token (paid prices σ k) (small k) .1 (subst (λ c. S .grammar .reliable c t) e (p .below)) in
       omega (arith, paid-rest prices σ i k l)
 
@@ -150,13 +144,13 @@ module _ {S : Sized} {log masks prices : List ℕ} (known : Known S log masks pr
             (le-or-lt i k);
       }
 
-  pub walked-hit : (r i cost : ℕ) → i < length σ → beginsBy masks (getD σ i 0) t ≡ true → cost < getD prices (128 + t) 0
+  pub walked-hit : (r i cost : ℕ) → i < length σ → beginsBy masks (getD σ i 0) t ≡ true → cost < limitBy prices t
       → Walked S prices σ t i cost
       → SearchOf S σ t r (Hit r i)
   unfolding SearchOf
   walked-hit r i cost l b m w = (refl, record { plausible = usable i l b (omega (arith, w .pays)); least = w .none })
 
-  pub walked-dear : (r i cost : ℕ) → getD prices (128 + t) 0 ≤ cost → Walked S prices σ t i cost → SearchOf S σ t r Nothing
+  pub walked-dear : (r i cost : ℕ) → limitBy prices t ≤ cost → Walked S prices σ t i cost → SearchOf S σ t r Nothing
   unfolding SearchOf
   walked-dear r i cost m w =
       λ k p. ⊎-elim (λ l. too-dear i k (omega (arith, w .pays)) l p) (λ l. w .none k l p) (le-or-lt i k)
@@ -221,7 +215,7 @@ module _ {S : Sized} {log masks prices stack : List ℕ} {height : ℕ} (can : C
   here s h = subst (λ u. SearchOf S (pile stack height) u r s) at-r h
 
   pub seek-hit : (i cost l : ℕ) {b : Bool} → i < height → b ≡ beginsBy masks (getD stack (height - 1 - i) 0) t → b ≡ true
-      → l ≡ getD prices (128 + t) 0 → cost < l → Walked S prices (pile stack height) t i cost
+      → l ≡ limitBy prices t → cost < l → Walked S prices (pile stack height) t i cost
       → SearchOf S (pile stack height) (getD log r 0) r (Hit r i)
   seek-hit i cost l m e n q k w =
       here (Hit r i) (walked-hit (can .known) (pile stack height) (can .symbols) short t token-low r i cost
@@ -229,7 +223,7 @@ module _ {S : Sized} {log masks prices stack : List ℕ} {height : ℕ} (can : C
       (ap (λ y. beginsBy masks y t) (cell i m) ∙ sym e ∙ n)
       (omega (arith, q, k)) w)
 
-  pub seek-dear : (i cost l : ℕ) → l ≡ getD prices (128 + t) 0 → l ≤ cost → Walked S prices (pile stack height) t i cost
+  pub seek-dear : (i cost l : ℕ) → l ≡ limitBy prices t → l ≤ cost → Walked S prices (pile stack height) t i cost
       → SearchOf S (pile stack height) (getD log r 0) r Nothing
   seek-dear i cost l q k w =
       here Nothing (walked-dear (can .known) (pile stack height) (can .symbols) short t token-low r i cost (omega (arith, q, k)) w)

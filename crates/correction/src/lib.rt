@@ -23,8 +23,8 @@ enum Search {
     Nothing,
 }
 
-// Where the table of prices has what a cost must stay below for each token, behind the costs of 128 symbols.
-const LIMITS: usize = 128;
+// Where the table of prices has what a cost must stay below for each token, behind the costs of 128 symbols and the cheapest rules of 64.
+const LIMITS: usize = 192;
 
 // Whether the token at place r can be used, and by popping how many symbols: one walk down the stack, as far as the cost
 // stays below the token's reliability. The contract alone reads the words.

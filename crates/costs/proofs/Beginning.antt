@@ -1,41 +1,102 @@
 -- The first table: over 60,000 for every nonterminal, so that nothing is claimed of any.
-use Prim.Native.Nat.{ℕ, zero, suc, _+_, _≤_, _<_}
-use mathlib.Core.Path.{_≡_}
+--     terminals-begin, terminals-go, terminals-end           the costs of the terminals in a clear table
+--     nonterminals-go, nonterminals-end                      and of the nonterminals
+use Prim.Native.Nat.{ℕ, zero, suc, _+_, _-_, _≤_, _<_}
+use mathlib.Core.Path.{_≡_, sym, ap, _∙_, subst}
 use mathlib.Core.List.{List}
 use mathlib.Core.Logic.{⊎-elim}
 use native.Mathlib.Omega.{arith}
-use lib.ListN.{length, List·getD-eq-default}
-use Rattle.base.specs.Choices.{below-or}
+use lib.ListN.{length, set, replicate, length-set, length-replicate}
+use lib.Seq.{getD-set-same, getD-set-other}
+use Rattle.base.specs.Choices.{below-or, below-or-at}
 use Rattle.grammar.specs.Words.{terminalCount, nonterminalCount, insertCost, Shaped}
-use Rattle.costs.specs.Held.{FirstCost, Held, entry}
+use Rattle.growth.specs.Sums.{all-zero}
+use Rattle.costs.specs.Held.{Cleared, Begun, Held, entry}
+
+-- ---- The terminals
+
+-- The first t of them have their costs.
+pub record Filled (ws : List ℕ) (t : ℕ) (l : List ℕ) : Type 0 where
+  pub size : length l ≡ 192
+  pub terminal : (x : ℕ) → x < t → entry l x ≡ insertCost ws x
+  pub beyond : (X : ℕ) → t ≤ X → entry l X ≡ 0
+
+pub made-clear : {l : List ℕ} (room : ℕ) → room ≡ 192 → l ≡ replicate room 0 → Cleared l
+made-clear {l} room size e =
+    record {
+      size = ap length e ∙ (length-replicate {A = ℕ} room 0 ∙ size);
+      nothing = λ X. ap (λ (m : List ℕ). entry m X) e ∙ all-zero room X;
+    }
+
+pub terminals-begin : (ws : List ℕ) {l : List ℕ} → Cleared l → Filled ws 0 l
+terminals-begin ws c = record { size = c .size; terminal = λ x h. absurd (omega arith); beyond = λ X h. c .nothing X }
+
+pub terminals-go : {ws l : List ℕ} {t c : ℕ} → Filled ws t l → t < 192 → c ≡ insertCost ws t → Filled ws (t + 1) (set l t c)
+terminals-go {ws} {l} {t} {c} f small e =
+    record {
+      size = length-set l t c ∙ f .size;
+      terminal = λ x h.
+          ⊎-elim (λ low. getD-set-other l t x c 0 (λ q. omega arith) ∙ f .terminal x low)
+          (λ at. ap (entry (set l t c)) at ∙ (getD-set-same l t c 0 (omega (arith, f .size)) ∙ (e ∙ ap (insertCost ws) (sym at))))
+          (below-or-at x t h);
+      beyond = λ X h. getD-set-other l t X c 0 (λ q. omega arith) ∙ f .beyond X (omega arith);
+    }
+
+pub terminals-end : {ws l : List ℕ} {t : ℕ} → Shaped ws → Filled ws t l → t ≡ terminalCount ws → Begun ws 0 l
+terminals-end s f e =
+    record {
+      size = f .size;
+      terminal = λ x h. f .terminal x (omega arith);
+      blank = λ x above h. f .beyond x (omega arith);
+      unknown = λ j h. absurd (omega arith);
+      beyond = λ X h. f .beyond X (omega (arith, s .terminals-high));
+    }
+
+-- ---- The nonterminals
+
+pub nonterminals-go : {ws l : List ℕ} {k : ℕ} → Shaped ws → Begun ws k l → k < 64 → Begun ws (k + 1) (set l (64 + k) 60001)
+nonterminals-go {ws} {l} {k} s b small =
+    record {
+      size = length-set l (64 + k) 60001 ∙ b .size;
+      terminal = λ t h. elsewhere t (λ e. omega (arith, s .terminals-high)) ∙ b .terminal t h;
+      blank = λ t above h. elsewhere t (λ e. omega arith) ∙ b .blank t above h;
+      unknown = λ j h.
+          ⊎-elim (λ low. elsewhere (64 + j) (λ e. omega arith) ∙ b .unknown j low)
+          (λ at. ap (λ i. entry (set l (64 + k) 60001) (64 + i)) at ∙ getD-set-same l (64 + k) 60001 0 (omega (arith, b .size)))
+          (below-or-at j k h);
+      beyond = λ X h. elsewhere X (λ e. omega arith) ∙ b .beyond X (omega arith);
+    }
+  where
+    elsewhere : (X : ℕ) → (X ≡ 64 + k → ⊥) → entry (set l (64 + k) 60001) X ≡ entry l X
+    elsewhere X other = getD-set-other l (64 + k) X 60001 0 other
 
 insert-small : (ws : List ℕ) → Shaped ws → (t : ℕ) → t < terminalCount ws → insertCost ws t ≤ 1000
 insert-small ws s zero h = omega (arith, s .end-cost)
 insert-small ws s (suc t) h = s .terminals (suc t) (omega arith) h .cost-high
 
-pub begun : (ws : List ℕ) → Shaped ws → (l : List ℕ) → length l ≡ 128 → ((x : ℕ) → x < 128 → FirstCost ws x (entry l x)) → Held ws l
-begun ws s l size first =
+pub nonterminals-end : {ws l : List ℕ} {k : ℕ} → Shaped ws → Begun ws k l → k ≡ nonterminalCount ws → Held ws l
+nonterminals-end {ws} {l} {k} s b e =
     record {
-      size = size;
-      terminal = λ t h. first t (omega (arith, s .terminals-high)) .terminal h;
-      sound = λ k h small.
-          let over = first (64 + k) (omega (arith, s .nonterminals-high)) .unknown (omega arith) (omega arith) in
-          absurd (omega arith);
-      limit = λ X. ⊎-elim (limit X) (λ h. omega (arith, past X h)) (below-or X 128);
-      blank = λ t above h. first t (omega arith) .blank above h;
-      beyond = λ X h. ⊎-elim (λ low. first X low .beyond h) (past X) (below-or X 128);
+      size = b .size;
+      terminal = b .terminal;
+      sound = λ j h small. absurd (omega (arith, b .unknown j (omega arith)));
+      no-rule = λ j h over. b .beyond (128 + j) (omega (arith, s .nonterminals-high));
+      limit = λ X. ⊎-elim (low X) (high X) (below-or X 64);
+      blank = b .blank;
+      beyond = λ X h _. b .beyond X (omega arith);
+      no-name = λ X h. b .beyond X (omega arith);
     }
   where
-    past : (X : ℕ) → 128 ≤ X → entry l X ≡ 0
-    past X h = List·getD-eq-default l 0 {n = X} (omega arith)
-
-    limit : (X : ℕ) → X < 128 → entry l X ≤ 60001
-    limit X h =
-        ⊎-elim (λ t. omega (arith, first X h .terminal t, insert-small ws s X t))
-        (λ t.
-        ⊎-elim (λ low. omega (arith, first X h .blank t low))
-        (λ high.
-        ⊎-elim (λ n. omega (arith, first X h .unknown high n)) (λ n. omega (arith, first X h .beyond n))
-        (below-or X (64 + nonterminalCount ws)))
-        (below-or X 64))
+    low : (X : ℕ) → X < 64 → entry l X ≤ 60001
+    low X h =
+        ⊎-elim (λ t. omega (arith, b .terminal X t, insert-small ws s X t)) (λ t. omega (arith, b .blank X t h))
         (below-or X (terminalCount ws))
+
+    high : (X : ℕ) → 64 ≤ X → entry l X ≤ 60001
+    high X h =
+        ⊎-elim
+        (λ n.
+        let at : 64 + (X - 64) ≡ X = omega arith in
+        subst (λ Y. entry l Y ≤ 60001) at (omega (arith, b .unknown (X - 64) (omega arith))))
+        (λ n. omega (arith, b .beyond X n))
+        (below-or X (64 + k))

@@ -1,3 +1,4 @@
 pub mod Beginning
 pub mod Summing
 pub mod Lowering
+pub mod Rounding

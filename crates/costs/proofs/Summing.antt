@@ -1,7 +1,7 @@
--- The sum over a right side, from its end.
+-- The sum over a right side, from its end; and sums of which each member is no more than another's.
 use Prim.Native.Nat.{ℕ, _+_, _-_, _*_, _≤_, _<_}
-use mathlib.Core.Path.{_≡_, sym, ap, _∙_}
-use mathlib.Core.List.{List}
+use mathlib.Core.Path.{_≡_, refl, sym, ap, subst, _∙_}
+use mathlib.Core.List.{List, [], _∷_, List·Memᴰ, List·Memᴰ·head, List·Memᴰ·tail}
 use native.Mathlib.Omega.{arith}
 use lib.ListN.{length, drop}
 use Rattle.grammar.specs.Words.{rightSide}
@@ -36,3 +36,21 @@ sum-more {cost = cost} s some at limit =
 pub sum-all : {ws : List ℕ} {p i sum : ℕ} {cost : ℕ → ℕ} → Summed ws p cost i sum → i ≤ 0 → sum ≡ total cost (rightSide ws p)
 sum-all {ws} {p} {i} {cost = cost} s none =
     let at : i ≡ 0 = omega arith in s .is ∙ ap (λ k. total cost (drop k (rightSide ws p))) at
+
+-- ---- Sums side by side
+
+pub total-no-more : (f g : ℕ → ℕ) (α : List ℕ) → ((X : ℕ) → List·Memᴰ X α → f X ≤ g X) → total f α ≤ total g α
+unfolding total
+total-no-more f g [] each = omega arith
+total-no-more f g (X ∷ α) each =
+    omega (arith, each X (List·Memᴰ·head refl), total-no-more f g α (λ Y m. each Y (List·Memᴰ·tail m)))
+
+-- One member is less.
+pub total-less : (f g : ℕ → ℕ) (α : List ℕ) (X : ℕ) → List·Memᴰ X α → ((Y : ℕ) → List·Memᴰ Y α → f Y ≤ g Y) → f X < g X
+    → total f α < total g α
+unfolding total
+total-less f g (Y ∷ α) X (List·Memᴰ·head e) each less =
+    let here : f Y < g Y = subst (λ Z. f Z < g Z) e less in
+    omega (arith, total-no-more f g α (λ Z m. each Z (List·Memᴰ·tail m)))
+total-less f g (Y ∷ α) X (List·Memᴰ·tail m) each less =
+    omega (arith, each Y (List·Memᴰ·head refl), total-less f g α X m (λ Z i. each Z (List·Memᴰ·tail i)) less)

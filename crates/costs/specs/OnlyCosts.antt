@@ -1,4 +1,4 @@
--- Two tables of costs of the same words are equal.
+-- Two tables of costs and cheapest rules of the same words are equal.
 use Prim.Native.Nat.{ℕ, _+_, _-_, _≤_, _<_}
 use mathlib.Core.Path.{_≡_, sym, _∙_, subst}
 use mathlib.Core.List.{List}
@@ -7,24 +7,26 @@ use native.Mathlib.Omega.{arith}
 use lib.ListN.{length, getD}
 use lib.Seq.{ext-getD}
 use Rattle.base.specs.Choices.{below-or}
-use Rattle.grammar.specs.Words.{terminalCount, nonterminalCount}
+use Rattle.grammar.specs.Words.{terminalCount, nonterminalCount, insertCost}
+use Rattle.grammar.specs.Grammar.{RuleOf}
+use Rattle.grammar.specs.theory.Costing.{cheapest-rule-unique}
 use Rattle.costs.specs.Costed.{Costed}
 
 module _ (ws l m : List ℕ) (one : Costed ws l) (two : Costed ws m) where
   -- A cost that one table knows the other knows, and holds no lower.
   no-lower : (k : ℕ) → k < nonterminalCount ws → getD l (64 + k) 0 ≤ 60000 → getD m (64 + k) 0 ≤ getD l (64 + k) 0
   no-lower k h small =
-      let mine = one .exact k h small in
+      let mine = one .exact k h small .cheapest in
       ⊎-elim
-      (λ known. omega (arith, two .exact k h (omega arith) .least (mine .string) (mine .yields), mine .costs))
+      (λ known. omega (arith, two .exact k h (omega arith) .cheapest .least (mine .string) (mine .yields), mine .costs))
       (λ over. omega (arith, two .over k h over (mine .string) (mine .yields), mine .costs))
       (below-or (getD m (64 + k) 0) 60001)
 
 pub costs-unique : (ws l m : List ℕ) → Costed ws l → Costed ws m → l ≡ m
 costs-unique ws l m one two = ext-getD 0 l m (one .size ∙ sym (two .size)) same
   where
-    inner : (k : ℕ) → k < nonterminalCount ws → getD l (64 + k) 0 ≡ getD m (64 + k) 0
-    inner k h =
+    cost : (k : ℕ) → k < nonterminalCount ws → getD l (64 + k) 0 ≡ getD m (64 + k) 0
+    cost k h =
         ⊎-elim
         (λ known.
         let up = no-lower ws l m one two k h (omega arith) in
@@ -35,14 +37,30 @@ costs-unique ws l m one two = ext-getD 0 l m (one .size ∙ sym (two .size)) sam
         (below-or (getD m (64 + k) 0) 60001))
         (below-or (getD l (64 + k) 0) 60001)
 
-    high : (X : ℕ) → 64 ≤ X → getD l X 0 ≡ getD m X 0
-    high X above =
+    rule : (k : ℕ) → k < nonterminalCount ws → getD l (128 + k) 0 ≡ getD m (128 + k) 0
+    rule k h =
+        ⊎-elim
+        (λ known.
+        cheapest-rule-unique (RuleOf ws) (insertCost ws) (one .exact k h (omega arith)) (two .exact k h (omega (arith, cost k h))) .1)
+        (λ over. one .no-rule k h (omega arith) ∙ sym (two .no-rule k h (omega (arith, cost k h))))
+        (below-or (getD l (64 + k) 0) 60001)
+
+    -- From nonterminal 0 on, in either half of the table.
+    named : (from : ℕ) → ((k : ℕ) → k < nonterminalCount ws → getD l (from + k) 0 ≡ getD m (from + k) 0)
+        → (X : ℕ) → from ≤ X → (from + nonterminalCount ws ≤ X → getD l X 0 ≡ getD m X 0) → getD l X 0 ≡ getD m X 0
+    named from each X above beyond =
         ⊎-elim
         (λ h.
-        let e : 64 + (X - 64) ≡ X = omega arith in
-        subst (λ Y. getD l Y 0 ≡ getD m Y 0) e (inner (X - 64) (omega arith)))
-        (λ h. one .beyond X h ∙ sym (two .beyond X h))
-        (below-or X (64 + nonterminalCount ws))
+        let e : from + (X - from) ≡ X = omega arith in
+        subst (λ Y. getD l Y 0 ≡ getD m Y 0) e (each (X - from) (omega arith)))
+        beyond
+        (below-or X (from + nonterminalCount ws))
+
+    high : (X : ℕ) → 64 ≤ X → getD l X 0 ≡ getD m X 0
+    high X above =
+        ⊎-elim (λ h. named 64 cost X above (λ b. one .beyond X b h ∙ sym (two .beyond X b h)))
+        (λ h. named 128 rule X h (λ b. one .no-name X b ∙ sym (two .no-name X b)))
+        (below-or X 128)
 
     low : (X : ℕ) → X < 64 → getD l X 0 ≡ getD m X 0
     low X below =

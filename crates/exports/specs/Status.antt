@@ -10,6 +10,7 @@ use lib.ListN.{take, replicate, set}
 use Rattle.grammar.specs.Refusals.{Outcome, given, refused, numberOf}
 use Rattle.grammar.specs.File.{FileRead}
 use Rattle.grammar.specs.Writing.{FileWritten}
+use Rattle.grammar.specs.Desk.{DeskAnswer}
 use Rattle.grammar.specs.Grammar.{Verdict}
 use Rattle.grammar.specs.Run.{Parsed}
 use Rattle.grammar.specs.Pace.{Reported}
@@ -45,7 +46,7 @@ pub record AnsweredAs {A : Type 0} (Answer : Outcome A → Type 0) (statusBy : A
   pub status-is : status ≡ statusOf statusBy outcome
   pub counts-are : counts ≡ counted countRoom (cellsOf countsBy outcome)
 
--- ---- Reading, writing and parsing
+-- ---- Reading, writing, pricing and parsing
 
 -- A file is read: status 0, and the number of words.
 abbrev pub ReadAs : List ℕ → ℕ → ℕ → ℕ → List ℕ → List ℕ → Type 0
@@ -56,6 +57,11 @@ ReadAs bytes room countRoom status words counts =
 abbrev pub WrittenAs : List ℕ → ℕ → ℕ → ℕ → List ℕ → List ℕ → Type 0
 WrittenAs words room countRoom status bytes counts =
     AnsweredAs (λ (o : Outcome ℕ). FileWritten words room o bytes) (λ n. 0) (λ n. n ∷ []) countRoom status counts
+
+-- Costs and cheapest rules are listed: status 0, and the number of nonterminals.
+abbrev pub DeskAs : List ℕ → ℕ → ℕ → ℕ → ℕ → List ℕ → List ℕ → List ℕ → Type 0
+DeskAs words costRoom ruleRoom countRoom status costs rules counts =
+    AnsweredAs (λ (o : Outcome ℕ). DeskAnswer words costRoom ruleRoom o costs rules) (λ n. 0) (λ n. n ∷ []) countRoom status counts
 
 -- The counts of a parse: moves, edit records, rule numbers.
 abbrev pub parseCounts : Counts → List ℕ

@@ -7,11 +7,12 @@ use mathlib.Core.Option.{Option}
 use lib.Ieee.{Float}
 use Rattle.grammar.specs.Refusals.{Outcome}
 use Rattle.grammar.specs.declared.Refusal.{Refusal}
-use Rattle.grammar.specs.theory.Requests.{file-written-unique}
+use Rattle.grammar.specs.theory.Requests.{file-written-unique, desk-unique}
 use Rattle.grammar.specs.theory.Sentences.{verdict-unique, file-read-unique, parsed-unique, reported-unique}
 use Rattle.exports.specs.Status.{
   AnsweredAs,
   CheckedAs,
+  DeskAs,
   PacedAs,
   ParsedAs,
   ReadAs,
@@ -47,6 +48,14 @@ written-as-unique p q =
     let same = file-written-unique (p .answer) (q .answer) in
     let told = answered-unique p q (same .0) in
     (told .0, same .1, told .1)
+
+pub desk-as-unique : {words : List ℕ} {costRoom ruleRoom countRoom s t : ℕ} {x y u v n m : List ℕ}
+    → DeskAs words costRoom ruleRoom countRoom s x u n → DeskAs words costRoom ruleRoom countRoom t y v m
+    → (s ≡ t) × (x ≡ y) × (u ≡ v) × (n ≡ m)
+desk-as-unique p q =
+    let same = desk-unique (p .answer) (q .answer) in
+    let told = answered-unique p q (same .0) in
+    (told .0, same .1, same .2, told .1)
 
 pub checked-as-unique : {words : List ℕ} {s t : ℕ} → CheckedAs words s → CheckedAs words t → s ≡ t
 checked-as-unique p q =

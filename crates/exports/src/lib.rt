@@ -1,8 +1,9 @@
-// The functions of the static library: reading, writing, checking, parsing and pacing for callers that know numbers and slices alone.
-// None asks for anything beforehand. `include/odhrashup.h` declares them.
+// The functions of the static library: reading, writing, checking, pricing, parsing and pacing for callers that know numbers and slices
+// alone. None asks for anything beforehand. `include/odhrashup.h` declares them.
 ghost use mathlib.Core.Path.{_≡_};
 ghost use lib.ListN.{length, replicate, set};
-ghost use Rattle.exports.specs.Status.{CheckedAs, PacedAs, ParsedAs, Put, ReadAs, WrittenAs, plusZero};
+ghost use Rattle.exports.specs.Status.{CheckedAs, DeskAs, PacedAs, ParsedAs, Put, ReadAs, WrittenAs, plusZero};
+use desk::Desk;
 use file::Reading;
 use grammar::Pace;
 use grammar::Report;
@@ -57,6 +58,28 @@ pub extern "C" fn odhrashup_check(words: &[u16]) -> u32
     match checked {
         Checked::Accepted => 0,
         Checked::Refused(refusal) => grammar::number_of(refusal),
+    }
+}
+
+// Lists the cost and the cheapest rule of each nonterminal. The status is 0, 5 to 9, or 23; counts[0] is the number of nonterminals.
+#[no_mangle]
+pub extern "C" fn odhrashup_costs(
+    words: &[u16],
+    costs: &mut [u16],
+    rules: &mut [u16],
+    counts: &mut [u64],
+) -> u32
+    ensures { λ r. ⌜ DeskAs (now (words .entry)) (length (now (costs .entry))) (length (now (rules .entry)))
+        (length (now (counts .entry))) r (now (costs .exit)) (now (rules .exit)) (now (counts .exit)) ⌝ }
+{
+    base::clear_numbers(counts);
+    let answer = desk::costs(words, costs, rules);
+    match answer {
+        Desk::Listed(nonterminals) => {
+            put(counts, 0, nonterminals as u64);
+            0
+        }
+        Desk::Refused(refusal) => grammar::number_of(refusal),
     }
 }
 

@@ -6,6 +6,7 @@ pub mod Grammar
 pub mod Buffers
 pub mod File
 pub mod Writing
+pub mod Desk
 pub mod Moves
 pub mod Run
 pub mod Pace

@@ -21,6 +21,7 @@ use Rattle.grammar.specs.declared.Refusal.the-variants.{
   NoRoom,
   BadCount,
   ShortBytes,
+  ShortDesk,
 }
 
 -- The number of each refusal: 1 to 12 are document 01's, the others document 02's.
@@ -39,6 +40,7 @@ numberOf StackFull = 11
 numberOf NoRoom = 12
 numberOf BadCount = 13
 numberOf ShortBytes = 14
+numberOf ShortDesk = 23
 
 -- What an answer is: values, or a refusal, which "returns its number only".
 pub data Outcome (A : Type 0) : Type 0 where

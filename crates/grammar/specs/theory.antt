@@ -18,6 +18,7 @@ pub mod Tables
 pub mod Closed
 pub mod Members
 pub mod Rewriting
+pub mod Costing
 pub mod Firsts
 pub mod Follows
 pub mod RightSides
@@ -45,6 +46,8 @@ pub mod Counted
 pub mod Room
 pub mod Exists
 pub mod Heights
+pub mod Ending
+pub mod CheapestRules
 pub mod Decided
 pub mod Places
 pub mod Earlier
@@ -53,3 +56,4 @@ pub mod Rebuilt
 pub mod Kept
 pub mod Told
 pub mod Refused
+pub mod Desk

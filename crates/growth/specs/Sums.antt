@@ -1,5 +1,5 @@
 -- The sum of a list of numbers, by which a table is ranked: a set that gains a member is a larger number, so the sum of sets
--- rises, and the sum of costs falls with each. Then what is known of a list that is filled from the front.
+-- rises. Then what is known of a list that is filled from the front.
 use Prim.Native.Nat.{ℕ, zero, suc, _+_, _*_, _^_, _≤_, _<_}
 use mathlib.Core.Path.{_≡_, refl, sym, ap, _∙_, subst}
 use mathlib.Core.List.{List, [], _∷_, _++_, append-nil}

@@ -1,4 +1,4 @@
-// A slice of sets that only grow (specs/Added.antt), and the law of all loops that go on until nothing changes
+// A slice of sets that only grow (specs/Added.antt), and the law of all loops over sets that go on until nothing changes
 // (specs/Turns.antt).
 ghost use mathlib.Core.Path.{_≡_};
 ghost use mathlib.Core.Bool.{_||_};

@@ -73,7 +73,7 @@ fn settle(words: &[u16], log: &[u16], asked: bool, edits: &mut [u16], rules: &mu
         (length (now (rules .entry))) (now (edits .exit)) (now (rules .exit)) r ⌝ }
 {
     let mut masks = [0u64; 65];
-    let mut prices = [0u32; 192];
+    let mut prices = [0u32; 256];
     let mut sides = [0u64; 512];
     let mut rows = [0u16; 4224];
     let checked = verdict::tables(words, &mut masks, &mut prices, &mut sides, &mut rows);

@@ -12,7 +12,7 @@ use lib.ListN.{length, getD, set, length-set}
 use lib.Dec.{ltb}
 use borrow.Author.Tests.{ltb-true, ltb-false}
 use Rattle.grammar.specs.Words.{terminalCount, nonterminalCount, insertCost, reliability, Shaped}
-use Rattle.grammar.specs.Cost.{SymbolCost, Cheapest}
+use Rattle.grammar.specs.Cost.{SymbolCost, Cheapest, CheapestRule}
 use Rattle.grammar.specs.Grammar.{RuleOf, Affordable, Reliable, EachNonterminal}
 use Rattle.grammar.specs.theory.Tables.{Inner}
 use Rattle.costs.specs.Costed.{Costed}
@@ -25,7 +25,7 @@ abbrev pub Limited : List ℕ → List ℕ → Type 0
 Limited ws l = (k : ℕ) → k < nonterminalCount ws → getD l (64 + k) 0 ≤ 60000
 
 pub afford-all : {ws l : List ℕ} → Costed ws l → Limited ws l → EachNonterminal ws (Affordable ws)
-afford-all {l = l} c f k h = record { cost = getD l (64 + k) 0; cheapest = c .exact k h (f k h); limit = f k h }
+afford-all {l = l} c f k h = record { cost = getD l (64 + k) 0; cheapest = c .exact k h (f k h) .cheapest; limit = f k h }
 
 pub afford-none : {ws l : List ℕ} → Costed ws l → EachNonterminal ws (Affordable ws) → Limited ws l
 afford-none {ws} {l} c f k h = at (ltb 60000 (getD l (64 + k) 0)) refl
@@ -48,7 +48,17 @@ module _ {ws l : List ℕ} (s : Shaped ws) (c : Costed ws l) (f : Limited ws l) 
       let e : 64 + k ≡ X = omega arith in
       let below : k < nonterminalCount ws = omega arith in
       SymbolCost.nonterminal low
-      (subst (λ Y. Cheapest (RuleOf ws) (insertCost ws) Y (getD l Y 0)) e (c .exact k below (f k below)))
+      (subst (λ Y. Cheapest (RuleOf ws) (insertCost ws) Y (getD l Y 0)) e (c .exact k below (f k below) .cheapest))
+
+  -- The cheapest rule stands 64 entries behind the cost.
+  pub ruled : (A : ℕ) → 64 ≤ A → A < 64 + nonterminalCount ws
+      → CheapestRule (RuleOf ws) (insertCost ws) A (getD l A 0) (getD l (64 + A) 0)
+  ruled A low high =
+      let e : 64 + (A - 64) ≡ A = omega arith in
+      let at : 128 + (A - 64) ≡ 64 + A = omega arith in
+      subst (λ B. CheapestRule (RuleOf ws) (insertCost ws) B (getD l B 0) (getD l (64 + A) 0)) e
+      (subst (λ i. CheapestRule (RuleOf ws) (insertCost ws) (64 + (A - 64)) (getD l (64 + (A - 64)) 0) (getD l i 0)) at
+      (c .exact (A - 64) (omega arith) (f (A - 64) (omega arith))))
 
   terminal-limit : (t : ℕ) → t < terminalCount ws → insertCost ws t ≤ 60000
   terminal-limit zero h = omega (arith, s .end-cost)

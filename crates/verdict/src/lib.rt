@@ -18,6 +18,7 @@ ghost use Rattle.verdict.specs.Answer.{
   Afforded,
   Judged,
   Predicted,
+  PricedAs,
   Sizes,
   Tabled,
   checkOf,
@@ -38,10 +39,19 @@ pub enum Checked {
 pub fn check(words: &[u16]) -> Checked
     ensures { λ r. ⌜ Verdict (now (words .entry)) (checkOf r) ⌝ }
 {
+    let mut prices = [0u32; 192];
+    priced(words, &mut prices)
+}
+
+// The grammar check, and for accepted words the cost of each symbol and the cheapest rule of each nonterminal. On a refusal what stands in
+// the table means nothing.
+pub fn priced(words: &[u16], prices: &mut [u32]) -> Checked
+    requires { ⌜ length (now prices) ≡ 192 ⌝ }
+    ensures { λ r. ⌜ PricedAs (now (words .entry)) (now (prices .exit)) r ⌝ }
+{
     let mut places = [0u16; 256];
-    let mut costs = [0u32; 128];
     let mut sets = [0u64; 65];
-    judge(words, &mut places, &mut costs, &mut sets)
+    judge(words, &mut places, prices, &mut sets)
 }
 
 // The grammar check, and for accepted words all tables that a parser needs. On a refusal what stands in the tables means
@@ -57,10 +67,10 @@ pub fn tables(
     ensures { λ r. ⌜ Tabled (now (words .entry)) (now (sets .exit)) (now (prices .exit)) (now (sides .exit)) (now (rows .exit)) r ⌝ }
 {
     let mut places = [0u16; 256];
-    let answer = judge(words, &mut places, &mut prices[0..128], sets);
+    let answer = judge(words, &mut places, &mut prices[0..192], sets);
     match answer {
         Checked::Accepted => {
-            limits(words, &mut prices[128..192]);
+            limits(words, &mut prices[192..256]);
             rows::fill(words, &places, sets, sides, rows);
             Checked::Accepted
         }
@@ -71,7 +81,7 @@ pub fn tables(
 // The conditions in their order, each over the whole grammar before the next. FOLLOW is exact only where every nonterminal
 // is reachable, so that the last test rests on the second.
 fn judge(words: &[u16], places: &mut [u16; 256], costs: &mut [u32], sets: &mut [u64]) -> Checked
-    requires { ⌜ length (now costs) ≡ 128 ⌝ }
+    requires { ⌜ length (now costs) ≡ 192 ⌝ }
     requires { ⌜ length (now sets) ≡ 65 ⌝ }
     ensures { λ r. ⌜ Judged (now (words .entry)) (now (places .exit)) (now (costs .exit)) (now (sets .exit)) r ⌝ }
 {
@@ -131,10 +141,10 @@ fn covers(words: &[u16], mask: u64) -> bool
 
 // ---- Refusal 8
 
-// No nonterminal costs more than 60,000. Fills the table of costs.
+// No nonterminal costs more than 60,000. Fills the table of costs and cheapest rules.
 fn affordable(words: &[u16], places: &[u16], costs: &mut [u32]) -> bool
     requires { ⌜ Ready (now words) (now places) ⌝ }
-    requires { ⌜ length (now costs) ≡ 128 ⌝ }
+    requires { ⌜ length (now costs) ≡ 192 ⌝ }
     ensures { λ r. ⌜ Afforded (now (words .entry)) (now (costs .exit)) r ⌝ }
 {
     costs::costs(words, places, costs);

@@ -13,10 +13,6 @@ use Rattle.grammar.specs.declared.Refusal.the-variants.{BadCount, ShortBytes}
 use Rattle.grammar.specs.theory.Blocks.{file-size}
 use Rattle.grammar.specs.theory.Conditions.{all-met, applies, passes}
 
--- A cleared buffer is one of its own length.
-pub lent-clear : {room : ℕ} {buffer : List ℕ} → length buffer ≡ room → buffer ≡ cleared room → buffer ≡ cleared (length buffer)
-lent-clear same clear = clear ∙ ap cleared (sym same)
-
 module _ (ws : List ℕ) (room : ℕ) where
   -- A refusal leaves a cleared buffer.
   refuses : {r : Refusal} {buffer : List ℕ} → Lowest (writeConditions ws room) (some r) → buffer ≡ cleared room

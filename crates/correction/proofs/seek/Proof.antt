@@ -2,8 +2,7 @@ use borrow.Author.Needs.{needs}
 use native.Mathlib.Omega.{arith}
 use Prim.Native.Nat.{_-_, _+_}
 use mathlib.Core.Path.{ap}
-use lib.ListN.{getD}
-use Rattle.grammar.specs.theory.Tables.{sizedOf}
+use Rattle.grammar.specs.theory.Tables.{sizedOf, limitBy}
 use Rattle.moves.specs.Pile.{pile}
 use Rattle.correction.specs.Searching.{
   Walked,
@@ -65,7 +64,7 @@ returns c =
     let start = c .before .before .before .before .before .before .before .before .before .before .before in
     let token-at = c .before .before .before .before .before .token-at in
     let wide = c .before .before .before .before .wide in
-    seek-dear pre _ _ (token-at .ensures) _ _ _ (ap (λ k. getD (start .args .prices .now) (128 + k) 0) (wide .ensures .0))
+    seek-dear pre _ _ (token-at .ensures) _ _ _ (ap (λ k. limitBy (start .args .prices .now) k) (wide .ensures .0))
     (c .if1 .taken) (c .before .before .loop .inv)
 
 sub-symbol : tie.Need-sub-symbol Inv-loop μ-loop
@@ -101,7 +100,7 @@ returns-2 c =
     let loop-test = c .before .before .before .before .loop-test in
     let if1 = c .before .before .before .if1 in
     seek-hit pre _ _ (token-at .ensures) _ _ _ (loop-test .taken) (c .before .begins .ensures) (c .if2 .taken)
-    (ap (λ k. getD (start .args .prices .now) (128 + k) 0) (wide .ensures .0)) (if1 .left) (loop .inv)
+    (ap (λ k. limitBy (start .args .prices .now) k) (wide .ensures .0)) (if1 .left) (loop .inv)
 
 wide-requires-2 : tie.Need-wide-requires-2 Inv-loop μ-loop
 wide-requires-2 c κs = search needs

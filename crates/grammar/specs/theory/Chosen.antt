@@ -3,7 +3,7 @@
 -- A plausible correction at token r is `Plausible` of Run.antt: r is in FIRST of the symbol below the popped ones, and
 -- their cost is strictly below r's reliability.
 use Prim.Native.Nat.{ℕ, zero, suc, _+_, _≤_}
-use mathlib.Core.Path.{_≡_, refl, sym, _∙_, subst}
+use mathlib.Core.Path.{_≡_, refl, sym, subst}
 use mathlib.Core.List.{List, [], _∷_}
 use mathlib.Core.Logic.{dite}
 use native.Mathlib.Omega.{arith}
@@ -11,33 +11,14 @@ use native.Mathlib.Decide.{decLt}
 use lib.ListN.{length, getD, take, length-append}
 use lib.Seq.{take-at, getD-at}
 use Rattle.grammar.specs.Words.{RuleSymbol, END, Terminal}
-use Rattle.grammar.specs.Derivation.{Rules, Derives, All, First, CanBeEmpty, Predict}
-use Rattle.grammar.specs.Cost.{Cheapest, SymbolCost, ListCost}
+use Rattle.grammar.specs.Derivation.{Derives, All, First, CanBeEmpty, Predict}
+use Rattle.grammar.specs.Cost.{SymbolCost, ListCost}
 use Rattle.grammar.specs.Grammar.{Grammar}
 use Rattle.grammar.specs.Run.{Plausible, Hit, Pop, Popped, Pick, Choice, expanding, correcting}
 use Rattle.grammar.specs.theory.Good.{Good}
 use Rattle.grammar.specs.theory.Forms.{Ended, not-terminal, ended-front}
 use Rattle.grammar.specs.theory.Reach.{first-append, first-down, first-past}
 use Rattle.grammar.specs.theory.Pops.{popped-unique}
-
--- ---- Cost
-
-module _ (R : Rules) (price : ℕ → ℕ) where
-  cheapest-unique : {A b c : ℕ} → Cheapest R price A b → Cheapest R price A c → b ≡ c
-  cheapest-unique x y =
-      omega (arith, x .least (y .string) (y .yields), y .least (x .string) (x .yields), x .costs, y .costs)
-
-  symbol-cost-unique : {X b c : ℕ} → SymbolCost R price X b → SymbolCost R price X c → b ≡ c
-  symbol-cost-unique (SymbolCost.terminal l e) (SymbolCost.terminal k f) = sym e ∙ f
-  symbol-cost-unique (SymbolCost.terminal l e) (SymbolCost.nonterminal k y) = absurd (omega arith)
-  symbol-cost-unique (SymbolCost.nonterminal l x) (SymbolCost.terminal k f) = absurd (omega arith)
-  symbol-cost-unique (SymbolCost.nonterminal l x) (SymbolCost.nonterminal k y) = cheapest-unique x y
-
-  -- A symbol list has one cost.
-  pub list-cost-unique : {α : List ℕ} {b c : ℕ} → ListCost R price α b → ListCost R price α c → b ≡ c
-  list-cost-unique ListCost.nothing ListCost.nothing = refl
-  list-cost-unique (ListCost.also x xs e) (ListCost.also y ys f) =
-      omega (arith, symbol-cost-unique x y, list-cost-unique xs ys, e, f)
 
 -- ---- The hit, of any grammar
 

@@ -23,7 +23,8 @@ use Rattle.grammar.specs.theory.Good.{Good}
 use Rattle.grammar.specs.theory.Forms.{Ended, At}
 use Rattle.grammar.specs.theory.Reach.{Reach, Where, reach-where, reach-first, first-reach, der-of-empties}
 use Rattle.grammar.specs.theory.Predictive.{first-or-behind}
-use Rattle.grammar.specs.theory.Chosen.{list-cost, list-cost-unique, end-fits, correction-moves}
+use Rattle.grammar.specs.theory.Chosen.{list-cost, end-fits, correction-moves}
+use Rattle.grammar.specs.theory.Costing.{list-cost-unique}
 use Rattle.grammar.specs.theory.States.{LogToken, state, Live, ended-take, live-start}
 use Rattle.grammar.specs.theory.Paths.{Path, path-on, path-live}
 use Rattle.grammar.specs.theory.Pops.{popped-exists}

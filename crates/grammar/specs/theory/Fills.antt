@@ -1,7 +1,7 @@
 -- Of every function that fills one buffer: its answer is one, each refusal is given exactly where it is due and leaves zeros, and any other
 -- answer comes with the whole content.
 use Prim.Native.Nat.{ℕ, _-_}
-use mathlib.Core.Path.{_≡_, refl, sym, subst}
+use mathlib.Core.Path.{_≡_, refl, sym, ap, subst, _∙_}
 use mathlib.Core.List.{List}
 use mathlib.Core.Logic.{_↔_}
 use mathlib.Core.Option.{none}
@@ -56,3 +56,7 @@ front-of room content = take-append-seam content _
 pub made-clear : (room : ℕ) {buffer : List ℕ} → buffer ≡ replicate (room - 0) 0 → buffer ≡ cleared room
 unfolding cleared
 made-clear room e = clear-whole 0 room e
+
+-- A cleared buffer is one of its own length.
+pub lent-clear : {room : ℕ} {buffer : List ℕ} → length buffer ≡ room → buffer ≡ cleared room → buffer ≡ cleared (length buffer)
+lent-clear same clear = clear ∙ ap cleared (sym same)

@@ -19,6 +19,7 @@ use Rattle.grammar.specs.declared.Refusal.the-variants.{
   NoRoom,
   BadCount,
   ShortBytes,
+  ShortDesk,
 }
 
 pub given-refused : {A : Type 0} {o : Outcome A} {a : A} {r : Refusal} → o ≡ given a → o ≡ refused r → ⊥
@@ -46,3 +47,4 @@ number-small StackFull = omega arith
 number-small NoRoom = omega arith
 number-small BadCount = omega arith
 number-small ShortBytes = omega arith
+number-small ShortDesk = omega arith

@@ -1,12 +1,14 @@
 -- The theorems that document 02 asks to be shown, request by request, in its words. Each is proved here by citing.
-use Prim.Native.Nat.{ℕ, _≤_}
+use Prim.Native.Nat.{ℕ, _+_, _≤_, _<_}
 use mathlib.Core.Path.{_≡_, refl, sym, ap, ap₂, subst, _∙_}
 use mathlib.Core.List.{List, [], _∷_, List·Memᴰ}
 use mathlib.Core.Logic.{_↔_}
 use mathlib.Core.Option.{none}
+use native.Mathlib.Omega.{arith}
 use lib.ListN.{length, take}
-use Rattle.grammar.specs.Words.{nonterminalCount, opening, closing}
+use Rattle.grammar.specs.Words.{RuleSymbol, nonterminalCount, insertCost, opening, closing}
 use Rattle.grammar.specs.Derivation.{CanBeEmpty}
+use Rattle.grammar.specs.Cost.{CheapestRule, Ends}
 use Rattle.grammar.specs.Grammar.{RuleOf, Verdict, grammarOf}
 use Rattle.grammar.specs.Moves.{Move, edits}
 use Rattle.grammar.specs.Run.{Pop, Choice, correcting, State, started, made, LogFits, RunOf}
@@ -14,11 +16,16 @@ use Rattle.grammar.specs.Pace.{Span, Clean}
 use Rattle.grammar.specs.Buffers.{filled, cleared, Fills}
 use Rattle.grammar.specs.File.{FileRead}
 use Rattle.grammar.specs.Writing.{blocksOf, WordCount, writeConditions, FileWritten}
+use Rattle.grammar.specs.Desk.{deskConditions, DeskAnswer}
 use Rattle.grammar.specs.Refusals.{Outcome, given}
 use Rattle.grammar.specs.theory.Answers.{log-tokens}
 use Rattle.grammar.specs.theory.Blocks.{blocks-below}
+use Rattle.grammar.specs.theory.CheapestRules as CheapestRules
 use Rattle.grammar.specs.theory.Conditions.{Held, held, all-met, passes}
+use Rattle.grammar.specs.theory.Costing.{cheapest-rule-unique}
 use Rattle.grammar.specs.theory.Demands.{Answered}
+use Rattle.grammar.specs.theory.Desk as Desk
+use Rattle.grammar.specs.theory.Desk.{DeskGives}
 use Rattle.grammar.specs.theory.Due.{Due, InOrder}
 use Rattle.grammar.specs.theory.Earlier as Earlier
 use Rattle.grammar.specs.theory.Earlier.{EarlierRun, AsEarlier}
@@ -128,3 +135,39 @@ module _ (ws log : List ℕ) (accepts : Verdict ws none) (fits : LogFits ws log)
   pub same-cycles-clean : (ns : List Move) → EarlierRunOf ws log ns → (s : Span)
       → Clean (opening ws) (closing ws) ms s ↔ Clean (opening ws) (closing ws) ns s
   same-cycles-clean ns before = as-every-earlier ns before .clean (opening ws) (closing ws)
+
+-- ======== (iii) Which rule is the cheap one
+
+-- "The lowest-numbered rule that reaches it" is one, and so is the cost that it reaches;
+pub one-cheapest-rule : (ws : List ℕ) {A b c p q : ℕ} → CheapestRule (RuleOf ws) (insertCost ws) A b p
+    → CheapestRule (RuleOf ws) (insertCost ws) A c q → (b ≡ c) × (p ≡ q)
+one-cheapest-rule ws x y = cheapest-rule-unique (RuleOf ws) (insertCost ws) x y
+
+module _ (ws : List ℕ) (accepts : Verdict ws none) (k : ℕ) (h : k < nonterminalCount ws) where
+  -- in an accepted grammar each nonterminal has one;
+  pub each-cheapest-rule : (c : ℕ) × (p : ℕ) × CheapestRule (RuleOf ws) (insertCost ws) (64 + k) c p
+  each-cheapest-rule =
+      let known : grammarOf ws .known (64 + k) = RuleSymbol.nonterminal (omega arith) (omega arith) in
+      let found = CheapestRules.cheapest-rule ws (accepted accepts) (64 + k) (omega arith) known in
+      (CheapestRules.cost ws (accepted accepts) (64 + k), found .0, found .1)
+
+  -- and "following cheapest rules from any nonterminal comes to an end": with a terminal string, and at most N rules are followed one below
+  -- the other.
+  pub cheapest-ends : (w : List ℕ) × Ends (RuleOf ws) (insertCost ws) (nonterminalCount ws) ((64 + k) ∷ []) w
+  cheapest-ends = CheapestRules.cheapest-ends ws (accepted accepts) k h
+
+-- The desk's conditions stand in the order of their numbers.
+pub desk-in-order : (ws : List ℕ) (costRoom ruleRoom : ℕ) → InOrder (deskConditions ws costRoom ruleRoom)
+desk-in-order ws costRoom ruleRoom = Desk.desk-in-order ws costRoom ruleRoom
+
+-- Demand 1 of the desk: N with cost and rule of each nonterminal, zeros behind, or a refusal that is due, and zeros in both buffers.
+pub desk-answers : {ws x u : List ℕ} {costRoom ruleRoom : ℕ} {a : Outcome ℕ} → DeskAnswer ws costRoom ruleRoom a x u
+    → Answered a (Due (deskConditions ws costRoom ruleRoom)) ((x ≡ cleared costRoom) × (u ≡ cleared ruleRoom))
+    (λ n. DeskGives ws costRoom ruleRoom n x u)
+desk-answers p =
+    record { exactly = Desk.desk-exactly p; zeros = λ r e. Desk.desk-zeros p e; holds = λ n e. Desk.desk-gives p e }
+
+-- The desk's answer and its buffers are one.
+pub desk-unique : {ws : List ℕ} {costRoom ruleRoom : ℕ} {a b : Outcome ℕ} {x y u v : List ℕ} → DeskAnswer ws costRoom ruleRoom a x u
+    → DeskAnswer ws costRoom ruleRoom b y v → (a ≡ b) × (x ≡ y) × (u ≡ v)
+desk-unique p q = Desk.desk-unique p q

@@ -7,7 +7,7 @@ use mathlib.Core.Logic.{_↔_}
 use lib.ListN.{length, getD}
 use Rattle.grammar.specs.Words.{terminalCount, nonterminalCount, ruleCount}
 use Rattle.grammar.specs.Derivation.{First}
-use Rattle.grammar.specs.Cost.{SymbolCost}
+use Rattle.grammar.specs.Cost.{SymbolCost, CheapestRule}
 use Rattle.grammar.specs.Grammar.{Grammar, grammarOf}
 use Rattle.grammar.specs.theory.Masks.{NullMask, FirstMask}
 
@@ -31,16 +31,22 @@ sizedOf ws = record { grammar = grammarOf ws; terminals = terminalCount ws; nont
 abbrev pub SymbolOf : Sized → ℕ → Type 0
 SymbolOf S X = Inner (S .terminals) (S .nonterminals) X
 
--- `sets` has FIRST of each nonterminal (0 to 63) and the nonterminals that can be empty (64). `prices` has the cost of each
--- symbol (0 to 127), and from 128 on what a cost must stay below for each token: END's is above every cost of a stack.
+-- What a cost must stay below for token t.
+abbrev pub limitBy : List ℕ → ℕ → ℕ
+limitBy prices t = getD prices (192 + t) 0
+
+-- `sets` has FIRST of each nonterminal (0 to 63) and the nonterminals that can be empty (64). `prices` has the cost of each symbol (0 to
+-- 127), the cheapest rule of each nonterminal 64 places behind its cost (128 to 191), and from 192 on what a cost must stay below for each
+-- token: END's is above every cost of a stack.
 pub record Shared (G : Grammar) (T N : ℕ) (sets prices : List ℕ) : Type 0 where
   pub sets-size : length sets ≡ 65
   pub first : (k : ℕ) → k < N → FirstMask (G .rules) ((64 + k) ∷ []) (getD sets k 0)
   pub nulls : NullMask (G .rules) N (getD sets 64 0)
-  pub prices-size : length prices ≡ 192
+  pub prices-size : length prices ≡ 256
   pub cost : (X : ℕ) → Inner T N X → SymbolCost (G .rules) (G .price) X (getD prices X 0)
   pub cost-limit : (X : ℕ) → Inner T N X → getD prices X 0 ≤ 60000
-  pub limit : (t : ℕ) → t < T → (c : ℕ) → c < 4294967295 → (c < getD prices (128 + t) 0) ↔ G .reliable c t
+  pub rule : (A : ℕ) → 64 ≤ A → A < 64 + N → CheapestRule (G .rules) (G .price) A (getD prices A 0) (getD prices (64 + A) 0)
+  pub limit : (t : ℕ) → t < T → (c : ℕ) → c < 4294967295 → (c < limitBy prices t) ↔ G .reliable c t
 
 -- A right side in one word: a symbol in each byte, the first in the lowest.
 unfoldable pub packed : List ℕ → ℕ

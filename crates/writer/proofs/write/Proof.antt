@@ -1,11 +1,10 @@
 -- `writer::write` meets its contract: each test tells whether its refusal applies, and the buffer that was cleared first is what a
 -- refusal leaves and what the blocks are written into.
 use native.Mathlib.Omega.{arith}
-use native.Mathlib.Omega.{arith}
 use lib.ListN.{length}
 use Rattle.grammar.specs.Writing.{WordCount}
-use Rattle.grammar.specs.theory.Fills.{made-clear}
-use Rattle.writer.proofs.Answering.{refuses-count, refuses-room, writes, lent-clear}
+use Rattle.grammar.specs.theory.Fills.{made-clear, lent-clear}
+use Rattle.writer.proofs.Answering.{refuses-count, refuses-room, writes}
 use borrow.Author.Needs.{needs}
 use Rattle.writer.proofs.write.Statement.{statement}
 use Rattle.writer.proofs.write.Tie as tie

@@ -1,0 +1,2 @@
+-- What the proofs of the setup desk share.
+pub mod Listing
