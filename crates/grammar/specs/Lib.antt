@@ -11,6 +11,8 @@ pub mod Moves
 pub mod Run
 pub mod Pace
 pub mod Listing
+pub mod Marks
+pub mod MarkLines
 pub mod Refusals
 -- What follows from them. Nothing above uses anything of these.
 pub mod theory

@@ -21,6 +21,7 @@ use Rattle.grammar.specs.declared.Refusal.the-variants.{
   NoRoom,
   BadCount,
   ShortBytes,
+  ShortTokens,
   ShortDesk,
 }
 
@@ -40,6 +41,7 @@ numberOf StackFull = 11
 numberOf NoRoom = 12
 numberOf BadCount = 13
 numberOf ShortBytes = 14
+numberOf ShortTokens = 15
 numberOf ShortDesk = 23
 
 -- What an answer is: values, or a refusal, which "returns its number only".

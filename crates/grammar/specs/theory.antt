@@ -57,3 +57,5 @@ pub mod Kept
 pub mod Told
 pub mod Refused
 pub mod Desk
+pub mod Strings
+pub mod Marking

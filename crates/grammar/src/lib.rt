@@ -32,6 +32,8 @@ pub enum Refusal {
     BadCount,
     // 14: the byte buffer is shorter than the file.
     ShortBytes,
+    // 15: the token buffer is shorter than the repaired log in marks alone.
+    ShortTokens,
     // 23: a buffer of the setup desk has fewer words than there are nonterminals.
     ShortDesk,
 }
@@ -55,6 +57,7 @@ pub fn number_of(refusal: Refusal) -> u32
         Refusal::NoRoom => 12,
         Refusal::BadCount => 13,
         Refusal::ShortBytes => 14,
+        Refusal::ShortTokens => 15,
         Refusal::ShortDesk => 23,
     }
 }

@@ -19,6 +19,7 @@ use Rattle.grammar.specs.declared.Refusal.the-variants.{
   NoRoom,
   BadCount,
   ShortBytes,
+  ShortTokens,
   ShortDesk,
 }
 
@@ -47,4 +48,5 @@ number-small StackFull = omega arith
 number-small NoRoom = omega arith
 number-small BadCount = omega arith
 number-small ShortBytes = omega arith
+number-small ShortTokens = omega arith
 number-small ShortDesk = omega arith

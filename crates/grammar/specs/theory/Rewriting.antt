@@ -25,7 +25,7 @@ opened R begin φ ψ b c X {β = β} d r e =
 
 -- ---- Terminal strings and their costs
 
-string-append : (price : ℕ → ℕ) (v w : List ℕ) → stringCost price (v ++ w) ≡ stringCost price v + stringCost price w
+pub string-append : (price : ℕ → ℕ) (v w : List ℕ) → stringCost price (v ++ w) ≡ stringCost price v + stringCost price w
 unfolding stringCost
 string-append price [] w = omega arith
 string-append price (t ∷ v) w = omega (arith, string-append price v w)

@@ -4,6 +4,7 @@ use Prim.Native.Nat.{ℕ, _+_, _-_, _*_, _≤_, _<_}
 use mathlib.Core.Path.{_≡_}
 use mathlib.Core.List.{List, [], _∷_}
 use mathlib.Core.Logic.{_↔_}
+use native.Mathlib.Omega.{arith}
 use lib.ListN.{length, getD}
 use Rattle.grammar.specs.Words.{terminalCount, nonterminalCount, ruleCount}
 use Rattle.grammar.specs.Derivation.{First}
@@ -78,3 +79,22 @@ pub record Pushes (G : Grammar) (N P : ℕ) (sides rows : List ℕ) : Type 0 whe
   pub rows-size : length rows ≡ 4224
   pub head : (A : ℕ) → 64 ≤ A → A < 64 + N → LastBefore G A P (getD rows A 0)
   pub row : (p A : ℕ) (β : List ℕ) → G .rules p A β → Row G rows p A β
+
+-- What spelling strings of cheapest rules needs of these tables: the number of each nonterminal's cheapest rule, and right sides packed.
+pub record Cheap (G : Grammar) (N : ℕ) (prices sides : List ℕ) : Type 0 where
+  pub prices-size : length prices ≡ 256
+  pub sides-size : length sides ≡ 512
+  pub rule : (A : ℕ) → 64 ≤ A → A < 64 + N → CheapestRule (G .rules) (G .price) A (getD prices A 0) (getD prices (64 + A) 0)
+  pub right : (p A : ℕ) (β : List ℕ) → G .rules p A β → getD sides (256 + p) 0 ≡ packed β
+  pub counted : (p A : ℕ) (β : List ℕ) → G .rules p A β → p < 256
+
+pub cheap-of : {G : Grammar} {T N P : ℕ} {sets prices sides rows : List ℕ} → Shared G T N sets prices → Pushes G N P sides rows
+    → Cheap G N prices sides
+cheap-of s p =
+    record {
+      prices-size = s .prices-size;
+      sides-size = p .sides-size;
+      rule = s .rule;
+      right = p .right;
+      counted = λ q A β r. omega (arith, p .few, p .counted q A β r);
+    }

@@ -1,0 +1,2 @@
+-- Laws of loops that several proofs cite.
+pub mod Filling
