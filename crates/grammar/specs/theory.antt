@@ -59,3 +59,4 @@ pub mod Refused
 pub mod Desk
 pub mod Strings
 pub mod Marking
+pub mod MarkAnswers

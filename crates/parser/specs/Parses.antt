@@ -10,6 +10,7 @@ use lib.ListN.{length, getD, take, replicate}
 use lib.Seq.{length-take-le}
 use Rattle.grammar.specs.Words.{END, Shaped, RuleSymbol, terminalCount, nonterminalCount}
 use Rattle.grammar.specs.Buffers.{filled, cleared}
+use Rattle.grammar.specs.Grammar.{grammarOf}
 use Rattle.grammar.specs.Run.{RunOf, LogFits, runConditions, Settled, answered, left, ParsedAsking, Parsed}
 use Rattle.grammar.specs.Refusals.{Lowest, Outcome, given, refused}
 use Rattle.grammar.specs.declared.Refusal.{Refusal}
@@ -18,7 +19,7 @@ use Rattle.grammar.specs.declared.Counts.{Counts}
 use Rattle.grammar.specs.theory.Answers.{log-tokens, parses-asking}
 use Rattle.grammar.specs.theory.Conditions.{all-met, applies, passes, held-front, refused-front}
 use Rattle.grammar.specs.theory.Good.{accepted, good-words}
-use Rattle.grammar.specs.theory.Tables.{Inner, sizedOf}
+use Rattle.grammar.specs.theory.Tables.{Inner, sizedOf, Cheap, cheap-of}
 use Rattle.base.specs.Telling.{Tells, denied}
 use Rattle.moves.specs.Tests.{le-or-lt}
 use Rattle.verdict.specs.Answer.{Tabled, verdict-in}
@@ -94,6 +95,28 @@ SettledAs Asked ws log editRoom ruleRoom editBuffer ruleBuffer (parsing.Parsed c
 SettledAs Asked ws log editRoom ruleRoom editBuffer ruleBuffer (parsing.Refused r) =
     Settled (runConditions ws log Asked) (RunOf ws log editRoom ruleRoom) (refused r)
 
+-- The sizes of the two tables that a caller lends.
+pub record Lent (prices sides : List ℕ) : Type 0 where
+  pub prices-size : length prices ≡ 256
+  pub sides-size : length sides ≡ 512
+
+-- Where the log is not refused, the tables have each nonterminal's cheapest rule and the right sides.
+unfoldable pub CheapWhere : List ℕ → List ℕ → List ℕ → Parsing → Type 0
+CheapWhere ws prices sides (parsing.Parsed counts) = Cheap (grammarOf ws) (nonterminalCount ws) prices sides
+CheapWhere ws prices sides (parsing.Refused r) = Unit {0}
+
+pub cheap-refused : (ws prices sides : List ℕ) (r : Refusal) → CheapWhere ws prices sides (parsing.Refused r)
+unfolding CheapWhere
+cheap-refused ws prices sides r = tt
+
+pub cheap-told : (ws prices sides : List ℕ) {a b : Parsing} → CheapWhere ws prices sides a → a ≡ b → CheapWhere ws prices sides b
+cheap-told ws prices sides c e = subst (λ x. CheapWhere ws prices sides x) e c
+
+pub cheap-where : (ws prices sides : List ℕ) {a : Parsing} {counts : Counts} → CheapWhere ws prices sides a → a ≡ parsing.Parsed counts
+    → Cheap (grammarOf ws) (nonterminalCount ws) prices sides
+unfolding CheapWhere
+cheap-where ws prices sides c e = cheap-told ws prices sides c e
+
 -- Accepted words, a log that fits and the tables are what a run works from.
 setting-of : {ws log sets prices sides rows : List ℕ} → Tabled ws sets prices sides rows checked.Accepted → LogFits ws log
     → Setting (sizedOf ws) log sets prices sides rows
@@ -129,6 +152,12 @@ module _ (Asked : Type 0) {ws sets prices sides rows : List ℕ} {j : Checked} (
   check-refuses log editRoom ruleRoom editBuffer ruleBuffer e = Settled.before (refused-front _ (verdict-in t e))
 
   module _ (passed : j ≡ checked.Accepted) where
+    -- The tables are filled, whatever the run comes to.
+    pub run-cheap : (r : Parsing) → CheapWhere ws prices sides r
+    unfolding CheapWhere
+    run-cheap (parsing.Parsed counts) = let tables = t .known passed in cheap-of (tables .shared) (tables .pushes)
+    run-cheap (parsing.Refused r) = tt
+
     pub log-can : Shaped ws
     log-can = accepted (verdict-in t passed) .shaped
 

@@ -8,7 +8,7 @@ ghost use Rattle.parser.specs.Lookup.{CanLookUp, RuleFor};
 ghost use Rattle.parser.specs.Expanding.{CanExpand, ExpandedOf};
 ghost use Rattle.parser.specs.Turns.{CanTurn, TurnOf};
 ghost use Rattle.parser.specs.Runs.{CanRun, RanOf, parsingOf};
-ghost use Rattle.parser.specs.Parses.{SettledAs};
+ghost use Rattle.parser.specs.Parses.{CheapWhere, Lent, SettledAs};
 ghost use Rattle.base.specs.Telling.{Tells};
 ghost use Rattle.grammar.specs.Run.{LogFits, Parsed, ParsedAsking};
 ghost use Rattle.grammar.specs.Words.{Shaped};
@@ -52,7 +52,28 @@ pub fn parse_asking(
     ensures { λ r. ⌜ ParsedAsking (asked ≡ true) (now (words .entry)) (now (log .entry)) (length (now (edits .entry)))
         (length (now (rules .entry))) (parsingOf r) (now (edits .exit)) (now (rules .exit)) ⌝ }
 {
-    let answer = settle(words, log, asked, edits, rules);
+    let mut prices = [0u32; 256];
+    let mut sides = [0u64; 512];
+    parse_tabled(words, log, asked, &mut prices, &mut sides, edits, rules)
+}
+
+// The same for a caller that spells strings of cheapest rules behind it: the two tables that this takes are lent by it, and filled where
+// the log is not refused. On a refusal what stands in them means nothing.
+pub fn parse_tabled(
+    words: &[u16],
+    log: &[u16],
+    asked: bool,
+    prices: &mut [u32],
+    sides: &mut [u64],
+    edits: &mut [u16],
+    rules: &mut [u16],
+) -> Parsing
+    requires { ⌜ Lent (now prices) (now sides) ⌝ }
+    ensures { λ r. ⌜ ParsedAsking (asked ≡ true) (now (words .entry)) (now (log .entry)) (length (now (edits .entry)))
+        (length (now (rules .entry))) (parsingOf r) (now (edits .exit)) (now (rules .exit)) ⌝ }
+    ensures { λ r. ⌜ CheapWhere (now (words .entry)) (now (prices .exit)) (now (sides .exit)) r ⌝ }
+{
+    let answer = settle(words, log, asked, prices, sides, edits, rules);
     match answer {
         Parsing::Parsed(counts) => {
             base::clear_words(edits, 3 * counts.records);
@@ -68,15 +89,23 @@ pub fn parse_asking(
 }
 
 // The conditions before the run, in their order, and the run. The buffers are not cleared yet.
-fn settle(words: &[u16], log: &[u16], asked: bool, edits: &mut [u16], rules: &mut [u16]) -> Parsing
+fn settle(
+    words: &[u16],
+    log: &[u16],
+    asked: bool,
+    prices: &mut [u32],
+    sides: &mut [u64],
+    edits: &mut [u16],
+    rules: &mut [u16],
+) -> Parsing
+    requires { ⌜ Lent (now prices) (now sides) ⌝ }
     ensures { λ r. ⌜ SettledAs (asked ≡ true) (now (words .entry)) (now (log .entry)) (length (now (edits .entry)))
         (length (now (rules .entry))) (now (edits .exit)) (now (rules .exit)) r ⌝ }
+    ensures { λ r. ⌜ CheapWhere (now (words .entry)) (now (prices .exit)) (now (sides .exit)) r ⌝ }
 {
     let mut masks = [0u64; 65];
-    let mut prices = [0u32; 256];
-    let mut sides = [0u64; 512];
     let mut rows = [0u16; 4224];
-    let checked = verdict::tables(words, &mut masks, &mut prices, &mut sides, &mut rows);
+    let checked = verdict::tables(words, &mut masks, prices, sides, &mut rows);
     match checked {
         Checked::Accepted => {
             if log_fits(words, log, asked) {} else {
@@ -87,8 +116,8 @@ fn settle(words: &[u16], log: &[u16], asked: bool, edits: &mut [u16], rules: &mu
                 words,
                 log,
                 &masks,
-                &prices,
-                &sides,
+                prices,
+                sides,
                 &rows,
                 &mut stack,
                 edits,

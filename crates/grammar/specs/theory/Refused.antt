@@ -88,7 +88,7 @@ module _ {Asked : Type 0} {ws log : List ℕ} {editRoom ruleRoom : ℕ} where
       subst (λ r. Given Asked ws log editRoom ruleRoom r) (refused-same e)
       (Given.within (lowest-held (runConditions ws log Asked) .0 l) k)
 
-  given-settled : {r : Refusal} → Given Asked ws log editRoom ruleRoom r
+  pub given-settled : {r : Refusal} → Given Asked ws log editRoom ruleRoom r
       → Settled (runConditions ws log Asked) (RunOf ws log editRoom ruleRoom) (refused r)
   given-settled {r} (Given.before d) = Settled.before (due-run r .1 d)
   given-settled (Given.within h k) = Settled.within (lowest-held (runConditions ws log Asked) .1 h) k

@@ -1,14 +1,14 @@
 -- The theorems that document 02 asks to be shown, request by request, in its words. Each is proved here by citing.
 use Prim.Native.Nat.{ℕ, _+_, _≤_, _<_}
 use mathlib.Core.Path.{_≡_, refl, sym, ap, ap₂, subst, _∙_}
-use mathlib.Core.List.{List, [], _∷_, List·Memᴰ}
+use mathlib.Core.List.{List, [], _∷_, map, List·Memᴰ}
 use mathlib.Core.Logic.{_↔_}
 use mathlib.Core.Option.{none}
 use native.Mathlib.Omega.{arith}
 use lib.ListN.{length, take}
-use Rattle.grammar.specs.Words.{RuleSymbol, nonterminalCount, insertCost, opening, closing}
-use Rattle.grammar.specs.Derivation.{CanBeEmpty}
-use Rattle.grammar.specs.Cost.{CheapestRule, Ends}
+use Rattle.grammar.specs.Words.{START, RuleSymbol, nonterminalCount, insertCost, opening, closing}
+use Rattle.grammar.specs.Derivation.{CanBeEmpty, Yields}
+use Rattle.grammar.specs.Cost.{stringCost, ListCost, CheapestRule, Ends}
 use Rattle.grammar.specs.Grammar.{RuleOf, Verdict, grammarOf}
 use Rattle.grammar.specs.Moves.{Move, edits}
 use Rattle.grammar.specs.Run.{Pop, Choice, correcting, State, started, made, LogFits, RunOf}
@@ -17,20 +17,27 @@ use Rattle.grammar.specs.Buffers.{filled, cleared, Fills}
 use Rattle.grammar.specs.File.{FileRead}
 use Rattle.grammar.specs.Writing.{blocksOf, WordCount, writeConditions, FileWritten}
 use Rattle.grammar.specs.Desk.{deskConditions, DeskAnswer}
+use Rattle.grammar.specs.Marks.{Mark, tokenOf, MarksOf, MarksAnswer}
 use Rattle.grammar.specs.Refusals.{Outcome, given}
+use Rattle.grammar.specs.declared.Counts.{Counts}
 use Rattle.grammar.specs.theory.Answers.{log-tokens}
 use Rattle.grammar.specs.theory.Blocks.{blocks-below}
 use Rattle.grammar.specs.theory.CheapestRules as CheapestRules
 use Rattle.grammar.specs.theory.Conditions.{Held, held, all-met, passes}
 use Rattle.grammar.specs.theory.Costing.{cheapest-rule-unique}
-use Rattle.grammar.specs.theory.Demands.{Answered}
+use Rattle.grammar.specs.theory.Demands.{Answered, repaired-correct}
 use Rattle.grammar.specs.theory.Desk as Desk
 use Rattle.grammar.specs.theory.Desk.{DeskGives}
 use Rattle.grammar.specs.theory.Due.{Due, InOrder}
 use Rattle.grammar.specs.theory.Earlier as Earlier
 use Rattle.grammar.specs.theory.Earlier.{EarlierRun, AsEarlier}
+use Rattle.grammar.specs.theory.Filled.{Filled}
 use Rattle.grammar.specs.theory.Fills.{fills-unique, fills-exactly, fills-zeros, fills-content, front-of}
 use Rattle.grammar.specs.theory.Good.{accepted, good-words}
+use Rattle.grammar.specs.theory.MarkAnswers as MarkAnswers
+use Rattle.grammar.specs.theory.MarkAnswers.{MarksRefuse, MarksGive}
+use Rattle.grammar.specs.theory.Marking as Marking
+use Rattle.grammar.specs.theory.Marking.{insertedSymbols, addedTokens}
 use Rattle.grammar.specs.theory.OnlyFile as OnlyFile
 use Rattle.grammar.specs.theory.OnlyFile.{Below}
 use Rattle.grammar.specs.theory.ReadBack.{file-right, file-holds, is-blocks}
@@ -171,3 +178,49 @@ desk-answers p =
 pub desk-unique : {ws : List ℕ} {costRoom ruleRoom : ℕ} {a b : Outcome ℕ} {x y u v : List ℕ} → DeskAnswer ws costRoom ruleRoom a x u
     → DeskAnswer ws costRoom ruleRoom b y v → (a ≡ b) × (x ≡ y) × (u ≡ v)
 desk-unique p q = Desk.desk-unique p q
+
+-- ======== (iv) A repaired log in marks alone
+
+-- The string of cheapest rules is one, so the marks of the moves are one list;
+pub one-marks : {ws : List ℕ} {ms : List Move} {xs ys : List Mark} → MarksOf ws ms xs → MarksOf ws ms ys → xs ≡ ys
+one-marks a b = Marking.marks-one a b
+
+module _ (ws log : List ℕ) (accepts : Verdict ws none) (fits : LogFits ws log) {editRoom ruleRoom : ℕ} {ms : List Move}
+    (run : RunOf ws log editRoom ruleRoom ms none) where
+  -- a run that ended has them;
+  pub some-marks : (xs : List Mark) × MarksOf ws ms xs
+  some-marks = Marking.marks-exist (record { words = accepted accepts; fits = fits }) run
+
+  module _ {xs : List Mark} (marked : MarksOf ws ms xs) where
+    -- their tokens are "the repaired log with every inserted nonterminal replaced", by the string its cheapest rules give, so that what is
+    -- proved of it applies:
+    pub marks-filled : Filled (RuleOf ws) ms (map tokenOf xs)
+    marks-filled = Marking.marks-fill marked
+
+    -- "the result is a correct log of the grammar", however long,
+    pub marks-correct : Yields (RuleOf ws) (START ∷ []) (map tokenOf xs)
+    marks-correct = repaired-correct ws log accepts fits run (map tokenOf xs) marks-filled
+
+    -- "and the cost of the tokens added is the cost of the symbols inserted".
+    pub marks-cost : ListCost (RuleOf ws) (insertCost ws) (insertedSymbols ms) (stringCost (insertCost ws) (addedTokens xs))
+    marks-cost = Marking.marks-cost marked
+
+-- Demand 1 of the marks: 5 to 12 exactly as the parse gives them, then 15, zeros in all three buffers; or the records and rule numbers of the
+-- moves, and their marks, zeros behind.
+pub marks-answers : {ws log x u s : List ℕ} {editRoom ruleRoom tokenRoom : ℕ} {a : Outcome (Counts × ℕ)}
+    → MarksAnswer ws log editRoom ruleRoom tokenRoom a x u s
+    → Answered a (MarksRefuse (Unit {0}) ws log editRoom ruleRoom tokenRoom)
+    ((x ≡ cleared editRoom) × (u ≡ cleared ruleRoom) × (s ≡ cleared tokenRoom))
+    (λ given. MarksGive tokenOf ws log editRoom ruleRoom tokenRoom x u s (given .0) (given .1))
+marks-answers p =
+    record {
+      exactly = MarkAnswers.marks-exactly p;
+      zeros = λ r e. MarkAnswers.marks-zeros p e;
+      holds = λ a e. MarkAnswers.marks-give p e;
+    }
+
+-- The answer and every word of the three buffers are one.
+pub marks-unique : {ws log x y u v s t : List ℕ} {editRoom ruleRoom tokenRoom : ℕ} {a b : Outcome (Counts × ℕ)}
+    → MarksAnswer ws log editRoom ruleRoom tokenRoom a x u s → MarksAnswer ws log editRoom ruleRoom tokenRoom b y v t
+    → (a ≡ b) × (x ≡ y) × (u ≡ v) × (s ≡ t)
+marks-unique p q = MarkAnswers.marks-unique p q

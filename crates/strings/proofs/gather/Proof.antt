@@ -75,9 +75,9 @@ loop-less c = search needs
 -- src/lib.rt:35:5
 loop-again : tie.Need-loop-again Inv-loop μ-loop
 loop-again c = (
-      omega (arith, c .before .before .loop-test .taken),
-      gather-goes (omega (arith, c .before .before .before .loop .inv .1 .size, c .before .before .before .before .before .before .before .before .before .pre .size, c .before .before .before .before .before .before .before .before .before .pre .shaped .nonterminals-high, c .before .before .before .before .nonterminal-count .ensures)) (c .before .before .before .loop .inv .1) refl,
-    )
+  omega (arith, c .before .before .loop-test .taken),
+  gather-goes (omega (arith, c .before .before .before .loop .inv .1 .size, c .before .before .before .before .before .before .before .before .before .pre .size, c .before .before .before .before .before .before .before .before .before .pre .shaped .nonterminals-high, c .before .before .before .before .nonterminal-count .ensures)) (c .before .before .before .loop .inv .1) refl,
+)
 
 -- src/lib.rt:28:1
 same-length : tie.Need-same-length Inv-loop μ-loop

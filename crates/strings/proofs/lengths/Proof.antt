@@ -38,9 +38,9 @@ slice-aggregate-renew c = search needs
 -- src/lib.rt:54:12
 renew-requires : tie.Need-renew-requires Inv-loop μ-loop
 renew-requires c κs = (
-      omega (arith, c .before .before .before .round .ensures .size, c .before .before .before .before .before .before .before .loop .inv .2, c .before .before .before .before .before .before .before .before .before .before .pre .spells .few),
-      omega (arith, c .before .before .before .before .before .before .before .loop .inv .1 .size, c .before .before .before .before .before .before .before .before .before .before .pre .spells .few),
-    )
+  omega (arith, c .before .before .before .round .ensures .size, c .before .before .before .before .before .before .before .loop .inv .2, c .before .before .before .before .before .before .before .before .before .before .pre .spells .few),
+  omega (arith, c .before .before .before .before .before .before .before .loop .inv .1 .size, c .before .before .before .before .before .before .before .before .before .before .pre .spells .few),
+)
 
 -- src/lib.rt:55:13
 same-length : tie.Need-same-length Inv-loop μ-loop
@@ -61,10 +61,10 @@ loop-less c = search needs
 -- src/lib.rt:52:5
 loop-again : tie.Need-loop-again Inv-loop μ-loop
 loop-again c = (
-      omega (arith, c .before .before .before .before .before .before .before .before .before .before .loop-test .taken),
-      measured-goes _ _ (c .before .before .before .before .before .before .before .before .before .before .before .before .before .before .pre .spells) (c .before .before .before .before .before .before .before .before .before .before .before .loop .d) (c .before .before .before .before .before .before .before .before .before .before .before .loop .inv .1) (c .before .before .before .before .before .before .before .round .ensures) (c .before .before .before .renew .ensures),
-      c .before .before .before .before .before .before .before .round .ensures .size ∙ c .before .before .before .before .before .before .before .before .before .before .before .loop .inv .2,
-    )
+  omega (arith, c .before .before .before .before .before .before .before .before .before .before .loop-test .taken),
+  measured-goes _ _ (c .before .before .before .before .before .before .before .before .before .before .before .before .before .before .pre .spells) (c .before .before .before .before .before .before .before .before .before .before .before .loop .d) (c .before .before .before .before .before .before .before .before .before .before .before .loop .inv .1) (c .before .before .before .before .before .before .before .round .ensures) (c .before .before .before .renew .ensures),
+  c .before .before .before .before .before .before .before .round .ensures .size ∙ c .before .before .before .before .before .before .before .before .before .before .before .loop .inv .2,
+)
 
 -- src/lib.rt:46:1
 same-length-2 : tie.Need-same-length-2 Inv-loop μ-loop

@@ -57,14 +57,14 @@ loop-less c = search needs
 -- src/lib.rt:81:5
 loop-again : tie.Need-loop-again Inv-loop μ-loop
 loop-again c = (
-      omega (arith, c .before .before .before .loop-test .taken),
-      renew-goes (omega (arith, c .before .before .before .before .loop .inv .1 .size, c .before .before .before .before .before .pre .1, c .before .before .before .loop-test .taken)) (c .before .before .before .before .loop .inv .1) refl
+  omega (arith, c .before .before .before .loop-test .taken),
+  renew-goes (omega (arith, c .before .before .before .before .loop .inv .1 .size, c .before .before .before .before .before .pre .1, c .before .before .before .loop-test .taken)) (c .before .before .before .before .loop .inv .1) refl
       (λ f.
       ⊎-elim
       (λ w. differs (w .1) f)
       (λ w. (sym (w .1) ∙ f, w .0 .left))
       (c .if1 .came)),
-    )
+)
 
 -- src/lib.rt:74:1
 same-length : tie.Need-same-length Inv-loop μ-loop

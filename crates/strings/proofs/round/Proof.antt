@@ -52,9 +52,9 @@ loop-less c = search needs
 -- src/lib.rt:67:5
 loop-again : tie.Need-loop-again Inv-loop μ-loop
 loop-again c = (
-      omega (arith, c .before .before .loop-test .taken),
-      round-goes (omega (arith, c .before .before .before .loop .inv .1 .size, c .before .before .before .before .before .before .before .pre .next-size, c .before .before .before .before .before .before .before .pre .few, c .before .before .loop-test .taken)) (c .before .before .before .loop .inv .1) (c .sum-of .ensures),
-    )
+  omega (arith, c .before .before .loop-test .taken),
+  round-goes (omega (arith, c .before .before .before .loop .inv .1 .size, c .before .before .before .before .before .before .before .pre .next-size, c .before .before .before .before .before .before .before .pre .few, c .before .before .loop-test .taken)) (c .before .before .before .loop .inv .1) (c .sum-of .ensures),
+)
 
 -- src/lib.rt:62:1
 same-length : tie.Need-same-length Inv-loop μ-loop

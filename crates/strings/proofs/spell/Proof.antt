@@ -76,9 +76,11 @@ loop-less-2 c = steps-more-less _ _ _ _ _ (omega (arith, c .before .if1 .left))
 -- src/lib.rt:136:5
 loop-again-2 : tie.Need-loop-again-2 Inv-loop μ-loop
 loop-again-2 c = (
-      length-set (c .before .before .loop .tokens) (c .before .before .loop .end)
-          (c .before .before .loop .left % 256 + c .before .before .before .args .raise)
-      ∙ c .before .before .loop .inv .0, spelling-token (c .before .before .loop .inv .1) (omega (arith, c .before .if1 .left)) (c .if3 .taken) (c .before .before .before .pre .room))
+  length-set (c .before .before .loop .tokens) (c .before .before .loop .end)
+      (c .before .before .loop .left % 256 + c .before .before .before .args .raise)
+      ∙ c .before .before .loop .inv .0,
+  spelling-token (c .before .before .loop .inv .1) (omega (arith, c .before .if1 .left)) (c .if3 .taken) (c .before .before .before .pre .room),
+)
 
 -- src/lib.rt:149:27
 mul-if4 : tie.Need-mul-if4 Inv-loop μ-loop
@@ -111,7 +113,7 @@ shared-slice-read-left c = omega (arith, spelling-high (c .before .before .befor
 -- src/lib.rt:136:5
 loop-less-3 : tie.Need-loop-less-3 Inv-loop μ-loop
 loop-less-3 c = let high = spelling-high (c .before .before .before .before .before .loop .inv .1) (omega (arith, c .before .before .before .before .if1 .left)) (omega (arith, c .before .before .before .if3 .left)) in
-      steps-down-less _ _ _ _ _ (omega (arith, c .before .before .before .before .if1 .left)) (high .0) (omega (arith, high .0, c .before .before .before .before .before .before .pre .spells .few, c .before .before .before .before .before .loop .inv .1 .cells)) (omega (arith, c .before .before .before .if3 .left))
+    steps-down-less _ _ _ _ _ (omega (arith, c .before .before .before .before .if1 .left)) (high .0) (omega (arith, high .0, c .before .before .before .before .before .before .pre .spells .few, c .before .before .before .before .before .loop .inv .1 .cells)) (omega (arith, c .before .before .before .if3 .left))
 
 -- src/lib.rt:136:5
 loop-again-3 : tie.Need-loop-again-3 Inv-loop μ-loop
@@ -124,10 +126,10 @@ loop-less-4 c = steps-more-less _ _ _ _ _ (omega (arith, c .before .before .befo
 -- src/lib.rt:136:5
 loop-again-4 : tie.Need-loop-again-4 Inv-loop μ-loop
 loop-again-4 c = (
-      c .before .before .before .before .loop .inv .0,
-      spelling-pass (c .before .before .before .before .loop .inv .1) (omega (arith, c .before .before .before .if1 .left)) (c .before .before .before .before .before .pre .measured) (omega (arith, c .before .before .if3 .left))
+  c .before .before .before .before .loop .inv .0,
+  spelling-pass (c .before .before .before .before .loop .inv .1) (omega (arith, c .before .before .before .if1 .left)) (c .before .before .before .before .before .pre .measured) (omega (arith, c .before .before .if3 .left))
       (spelling-high (c .before .before .before .before .loop .inv .1) (omega (arith, c .before .before .before .if1 .left)) (omega (arith, c .before .before .if3 .left)) .1) (omega (arith, c .if4 .left)),
-    )
+)
 
 pub spell-spec : {M : Type 1} → statement M
 spell-spec =
