@@ -1,4 +1,4 @@
-/* A bench that links the library: each function once, then an idle station and six refusals. `examples/bench` builds and runs it; on an
+/* A bench that links the library: each function once, then an idle station and seven refusals. `examples/bench` builds and runs it; on an
  * x86-64 Linux that is
  *
  *    ./library
@@ -28,7 +28,8 @@ int main(void) {
     static uint8_t file[ODHRASHUP_BYTES_ENOUGH];
     static uint16_t words[ODHRASHUP_WORDS_ENOUGH], edits[ODHRASHUP_EDITS_LENT], rules[ODHRASHUP_RULES_LENT];
     uint16_t costs[ODHRASHUP_NONTERMINALS_ENOUGH], cheapest[ODHRASHUP_NONTERMINALS_ENOUGH];
-    uint64_t counts[ODHRASHUP_PARSE_COUNTS];
+    static uint16_t tokens[ODHRASHUP_TOKENS_LENT];
+    uint64_t counts[ODHRASHUP_MARKS_COUNTS];
     double mean[1];
 
     /* start start pole crimp done: the first cycle lost all but its start. */
@@ -61,6 +62,13 @@ int main(void) {
         printf("  %s symbol %u at place %u\n", edit[0] == ODHRASHUP_DELETE ? "delete" : "insert", edit[2], edit[1]);
     }
 
+    /* The same log in marks alone: what was missing is put in, and what an assembler does not read is gone. */
+    status = odhrashup_marks(words, n, log, LEN(log), edits, LEN(edits), rules, LEN(rules), tokens, LEN(tokens), counts,
+                             LEN(counts));
+    printf("marks: status %u, %llu tokens:", status, (unsigned long long)counts[ODHRASHUP_MARKS_TOKENS]);
+    for (uint64_t i = 0; i < counts[ODHRASHUP_MARKS_TOKENS]; i++) printf(" %u", tokens[i]);
+    printf("\n");
+
     /* The last mark alone: it goes, and nothing is missing, since a shift may be empty. So room for one record is enough. */
     status = odhrashup_parse(words, n, log + 4, 1, edits, ODHRASHUP_EDIT_WORDS, rules, LEN(rules), counts, LEN(counts));
     printf("a lone done: status %u, %llu moves, %llu edits\n", status, (unsigned long long)counts[ODHRASHUP_PARSE_MOVES],
@@ -82,6 +90,11 @@ int main(void) {
     status = odhrashup_pace(words, n, log, LEN(log), ticks, LEN(ticks), edits, 5, rules, LEN(rules), counts, LEN(counts),
                             mean, LEN(mean));
     show("room for one edit", status, counts, mean);
+
+    /* Eight tokens, and room for seven. */
+    status = odhrashup_marks(words, n, log, LEN(log), edits, LEN(edits), rules, LEN(rules), tokens, 7, counts, LEN(counts));
+    printf("room for seven marks: refused %u, %llu tokens, cleared %d\n", status,
+           (unsigned long long)counts[ODHRASHUP_MARKS_TOKENS], edits[0] == 0 && rules[0] == 0 && tokens[0] == 0);
 
     file[9] ^= 1;
     status = odhrashup_read(file, size, words, LEN(words), counts, LEN(counts));

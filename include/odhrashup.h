@@ -11,7 +11,7 @@
  * Stack: less than 1 KiB for odhrashup_read and odhrashup_write, 4 KiB for odhrashup_check and odhrashup_costs, 20 KiB for
  * odhrashup_parse and odhrashup_pace, whatever the input. (Measured, not proved: 104, 184, 3,016, 3,048, 16,616 and 16,680 bytes.)
  *
- * Each function answers a status: 0, ODHRASHUP_IDLE, or the number of a refusal, 1 to 14 or 23:
+ * Each function answers a status: 0, ODHRASHUP_IDLE, or the number of a refusal, 1 to 15 or 23:
  *    1 file empty, not a multiple of 512, or over 5,632 bytes      7 a nonterminal derives no terminal string
  *    2 some block's check is wrong                                 8 a nonterminal costs over 60,000
  *    3 some block number, use count or unused word is wrong        9 two rules share a predict token
@@ -22,15 +22,18 @@
  *                                                                 12 the next rule number or edit record does not fit
  *                                                                 13 there are no words to write, or more than 2,783
  *                                                                 14 the byte buffer is shorter than the file
+ *                                                                 15 the token buffer is shorter than the repaired log
+ *                                                                    in marks alone
  *                                                                 23 the cost or the rule buffer has fewer words than
  *                                                                    there are nonterminals
- * The lowest of 1 to 10, 13, 14 and 23 that applies to a call is given; 11 and 12 come from the first move that meets them.
+ * The lowest of 1 to 10, 13, 14 and 23 that applies to a call is given; 11 and 12 come from the first move that meets them, and 15 only
+ * where none of the others is given.
  *
- * What is left in a buffer that is written (words, bytes, costs, rules, edits, counts, mean), in every element of it:
+ * What is left in a buffer that is written (words, bytes, costs, rules, edits, tokens, counts, mean), in every element of it:
  *  - after a refusal zeros, and no more;
  *  - otherwise the values named below, and zeros behind them. `counts` and `mean` may be shorter than their values, or empty: they get
  *    those that fit, and this is no refusal. The others hold all or the call is refused: `words` by 4, `bytes` by 14, `edits` and `rules`
- *    of a log by 12, `costs` and `rules` of the setup desk by 23.
+ *    of a log by 12, `tokens` by 15, `costs` and `rules` of the setup desk by 23.
  *
  * docs/RULES.md has the rules, docs/TRUST.md what is proved of these functions. This header itself is checked by nothing.
  */
@@ -62,6 +65,12 @@ extern "C" {
 #define ODHRASHUP_PARSE_EDITS 1 /* edit records, of three words each */
 #define ODHRASHUP_PARSE_RULES 2 /* rule numbers listed */
 #define ODHRASHUP_PARSE_COUNTS 3
+
+#define ODHRASHUP_MARKS_MOVES 0  /* odhrashup_marks: moves made */
+#define ODHRASHUP_MARKS_EDITS 1  /* edit records, of three words each */
+#define ODHRASHUP_MARKS_RULES 2  /* rule numbers listed */
+#define ODHRASHUP_MARKS_TOKENS 3 /* tokens of the result */
+#define ODHRASHUP_MARKS_COUNTS 4
 
 #define ODHRASHUP_PACE_CYCLES 0 /* odhrashup_pace: clean cycles */
 #define ODHRASHUP_PACE_MS 1     /* the sum of their times in ms */
@@ -96,6 +105,11 @@ extern "C" {
 #define ODHRASHUP_EDITS_ENOUGH(n) ((size_t)ODHRASHUP_EDIT_WORDS * (2 + (size_t)513 * (size_t)(n)))
 #define ODHRASHUP_RULES_ENOUGH(n) ((size_t)64 * (size_t)(n))
 
+/* No string of cheapest rules has more than 60,000 tokens, so that the result of odhrashup_marks has at most as many tokens as the log,
+ * and 60,000 for each inserted symbol. The program print_marks lends as many words. */
+#define ODHRASHUP_STRING_MOST 60000
+#define ODHRASHUP_TOKENS_LENT 65536
+
 /* What the printing program lends: 8,192 records and 16,384 rule numbers. A log that needs more gets refusal 12. */
 #define ODHRASHUP_EDITS_LENT 24576
 #define ODHRASHUP_RULES_LENT 16384
@@ -126,6 +140,15 @@ uint32_t odhrashup_costs(const uint16_t *words, size_t words_len, uint16_t *cost
  * the moves, `rules` the numbers of the rules applied, `counts` the three of ODHRASHUP_PARSE_.. */
 uint32_t odhrashup_parse(const uint16_t *words, size_t words_len, const uint16_t *log, size_t log_len, uint16_t *edits,
                          size_t edits_len, uint16_t *rules, size_t rules_len, uint64_t *counts, size_t counts_len);
+
+/* Repairs a log and writes it in marks alone. Status 0, 5 to 12 exactly as odhrashup_parse with these `edits` and `rules` gives them, or
+ * else 15 where `tokens` is shorter than the result. `tokens` gets the repaired log: the kept tokens as they are and, for each inserted
+ * symbol, the string that its cheapest rules give (those of odhrashup_costs). It is a correct log, though it may have more than
+ * ODHRASHUP_MOST_TOKENS tokens. An added token has no tick. `edits` and `rules` as odhrashup_parse leaves them; any refusal, 15 too,
+ * leaves zeros in all three. `counts` are the four of ODHRASHUP_MARKS_.. */
+uint32_t odhrashup_marks(const uint16_t *words, size_t words_len, const uint16_t *log, size_t log_len, uint16_t *edits,
+                         size_t edits_len, uint16_t *rules, size_t rules_len, uint16_t *tokens, size_t tokens_len,
+                         uint64_t *counts, size_t counts_len);
 
 /* Repairs a log and times its clean cycles. Status 0, ODHRASHUP_IDLE, or 5 to 12. `edits` and `rules` as above, `counts` the two of
  * ODHRASHUP_PACE_.. (how many records and rules there are is not told: kind 0 is no record, and odhrashup_parse has the numbers).

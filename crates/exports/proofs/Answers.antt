@@ -19,6 +19,7 @@ use Rattle.exports.specs.Status.{
   Put,
   cellsOf,
   counted,
+  marksCounts,
   paceFloat,
   paceStatus,
   parseCounts,
@@ -26,7 +27,7 @@ use Rattle.exports.specs.Status.{
   statusOf,
   verdictStatus,
 }
-use Rattle.exports.specs.Fitting.{fits-none, fits-one, fits-two, fits-three}
+use Rattle.exports.specs.Fitting.{fits-none, fits-one, fits-two, fits-three, fits-four}
 
 -- ---- Checking
 
@@ -63,6 +64,11 @@ one-count room n b s = s ∙ (ap (λ (l : List ℕ). set l 0 n) b ∙ fits-one 0
 pub three-counts : (room : ℕ) (n : Counts) {blank one two three : List ℕ} → blank ≡ replicate room 0 → one ≡ set blank 0 (n .moves)
     → two ≡ set one 1 (n .records) → three ≡ set two 2 (n .listed) → three ≡ counted room (parseCounts n)
 three-counts room n b p q s = cc (fits-three 0 room (n .moves) (n .records) (n .listed))
+
+pub four-counts : (room : ℕ) (n : Counts) (size : ℕ) {blank one two three four : List ℕ} → blank ≡ replicate room 0
+    → one ≡ set blank 0 (n .moves) → two ≡ set one 1 (n .records) → three ≡ set two 2 (n .listed) → four ≡ set three 3 size
+    → four ≡ counted room (marksCounts (n, size))
+four-counts room n size b p q s f = cc (fits-four 0 room (n .moves) (n .records) (n .listed) size)
 
 -- The division by which the idle station's float is made.
 pub no-number : div binary64 (ofBits binary64 0) (ofBits binary64 0) ≡ nan

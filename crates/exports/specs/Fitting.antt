@@ -1,4 +1,4 @@
--- Blank buffers with the first cells written as far as they fit: fits-none, fits-one, fits-two, fits-three.
+-- Blank buffers with the first cells written as far as they fit: fits-none to fits-four.
 use Prim.Native.Nat.{ℕ, zero, suc, _≤_}
 use native.Mathlib.Omega.{arith}
 use mathlib.Core.Path.{_≡_, refl, sym, ap}
@@ -34,3 +34,13 @@ module _ {A : Type 0} (z : A) where
   fits-three (suc zero) a b d = refl
   fits-three (suc (suc zero)) a b d = refl
   fits-three (suc (suc (suc n))) a b d = ap (λ (l : List A). a ∷ b ∷ d ∷ l) (sym (take-blank n (suc (suc (suc n))) (omega arith)))
+
+  pub fits-four : (room : ℕ) (a b d e : A)
+      → set (set (set (set (replicate room z) 0 a) 1 b) 2 d) 3 e ≡ fitted z room (a ∷ b ∷ d ∷ e ∷ [])
+  unfolding fitted
+  fits-four zero a b d e = refl
+  fits-four (suc zero) a b d e = refl
+  fits-four (suc (suc zero)) a b d e = refl
+  fits-four (suc (suc (suc zero))) a b d e = refl
+  fits-four (suc (suc (suc (suc n)))) a b d e =
+      ap (λ (l : List A). a ∷ b ∷ d ∷ e ∷ l) (sym (take-blank n (suc (suc (suc (suc n)))) (omega arith)))

@@ -13,6 +13,7 @@ use Rattle.grammar.specs.Writing.{FileWritten}
 use Rattle.grammar.specs.Desk.{DeskAnswer}
 use Rattle.grammar.specs.Grammar.{Verdict}
 use Rattle.grammar.specs.Run.{Parsed}
+use Rattle.grammar.specs.Marks.{MarksAnswer}
 use Rattle.grammar.specs.Pace.{Reported}
 use Rattle.grammar.specs.declared.Counts.{Counts}
 use Rattle.grammar.specs.declared.Refusal.{Refusal}
@@ -46,7 +47,7 @@ pub record AnsweredAs {A : Type 0} (Answer : Outcome A → Type 0) (statusBy : A
   pub status-is : status ≡ statusOf statusBy outcome
   pub counts-are : counts ≡ counted countRoom (cellsOf countsBy outcome)
 
--- ---- Reading, writing, pricing and parsing
+-- ---- Reading, writing, pricing, parsing and marking
 
 -- A file is read: status 0, and the number of words.
 abbrev pub ReadAs : List ℕ → ℕ → ℕ → ℕ → List ℕ → List ℕ → Type 0
@@ -71,6 +72,16 @@ parseCounts n = n .moves ∷ n .records ∷ n .listed ∷ []
 abbrev pub ParsedAs : List ℕ → List ℕ → ℕ → ℕ → ℕ → ℕ → List ℕ → List ℕ → List ℕ → Type 0
 ParsedAs words log editRoom ruleRoom countRoom status edits rules counts =
     AnsweredAs (λ (o : Outcome Counts). Parsed words log editRoom ruleRoom o edits rules) (λ n. 0) parseCounts countRoom status counts
+
+-- The counts of a repaired log in marks alone: those of its parse, and the tokens.
+abbrev pub marksCounts : Counts × ℕ → List ℕ
+marksCounts a = a .0 .moves ∷ a .0 .records ∷ a .0 .listed ∷ a .1 ∷ []
+
+-- A repaired log is written in marks alone: status 0, and its counts.
+abbrev pub MarksAs : List ℕ → List ℕ → ℕ → ℕ → ℕ → ℕ → ℕ → List ℕ → List ℕ → List ℕ → List ℕ → Type 0
+MarksAs words log editRoom ruleRoom tokenRoom countRoom status edits rules tokens counts =
+    AnsweredAs (λ (o : Outcome (Counts × ℕ)). MarksAnswer words log editRoom ruleRoom tokenRoom o edits rules tokens) (λ a. 0) marksCounts
+    countRoom status counts
 
 -- ---- Checking
 

@@ -7,12 +7,13 @@ use mathlib.Core.Option.{Option}
 use lib.Ieee.{Float}
 use Rattle.grammar.specs.Refusals.{Outcome}
 use Rattle.grammar.specs.declared.Refusal.{Refusal}
-use Rattle.grammar.specs.theory.Requests.{file-written-unique, desk-unique}
+use Rattle.grammar.specs.theory.Requests.{file-written-unique, desk-unique, marks-unique}
 use Rattle.grammar.specs.theory.Sentences.{verdict-unique, file-read-unique, parsed-unique, reported-unique}
 use Rattle.exports.specs.Status.{
   AnsweredAs,
   CheckedAs,
   DeskAs,
+  MarksAs,
   PacedAs,
   ParsedAs,
   ReadAs,
@@ -68,6 +69,14 @@ parsed-as-unique p q =
     let same = parsed-unique (p .answer) (q .answer) in
     let told = answered-unique p q (same .0) in
     (told .0, same .1, same .2, told .1)
+
+pub marks-as-unique : {words log : List ℕ} {editRoom ruleRoom tokenRoom countRoom s t : ℕ} {x y u v p q n m : List ℕ}
+    → MarksAs words log editRoom ruleRoom tokenRoom countRoom s x u p n → MarksAs words log editRoom ruleRoom tokenRoom countRoom t y v q m
+    → (s ≡ t) × (x ≡ y) × (u ≡ v) × (p ≡ q) × (n ≡ m)
+marks-as-unique a b =
+    let same = marks-unique (a .answer) (b .answer) in
+    let told = answered-unique a b (same .0) in
+    (told .0, same .1, same .2, same .3, told .1)
 
 pub paced-as-unique : {words log ticks : List ℕ} {editRoom ruleRoom countRoom meanRoom s t : ℕ} {x y u v n m : List ℕ}
     {f g : List Float} → PacedAs words log ticks editRoom ruleRoom countRoom meanRoom s x u n f

@@ -1,12 +1,23 @@
-// The functions of the static library: reading, writing, checking, pricing, parsing and pacing for callers that know numbers and slices
-// alone. None asks for anything beforehand. `include/odhrashup.h` declares them.
+// The functions of the static library: reading, writing, checking, pricing, parsing, marking and pacing for callers that know numbers and
+// slices alone. None asks for anything beforehand. `include/odhrashup.h` declares them.
 ghost use mathlib.Core.Path.{_≡_};
 ghost use lib.ListN.{length, replicate, set};
-ghost use Rattle.exports.specs.Status.{CheckedAs, DeskAs, PacedAs, ParsedAs, Put, ReadAs, WrittenAs, plusZero};
+ghost use Rattle.exports.specs.Status.{
+  CheckedAs,
+  DeskAs,
+  MarksAs,
+  PacedAs,
+  ParsedAs,
+  Put,
+  ReadAs,
+  WrittenAs,
+  plusZero,
+};
 use desk::Desk;
 use file::Reading;
 use grammar::Pace;
 use grammar::Report;
+use marks::Marking;
 use pace::Paced;
 use parser::Parsing;
 use verdict::Checked;
@@ -105,6 +116,35 @@ pub extern "C" fn odhrashup_parse(
             0
         }
         Parsing::Refused(refusal) => grammar::number_of(refusal),
+    }
+}
+
+// Repairs a log and writes it in marks alone. The status is 0, 5 to 12, or 15; the counts are the three of the parse and the number of
+// tokens.
+#[no_mangle]
+pub extern "C" fn odhrashup_marks(
+    words: &[u16],
+    log: &[u16],
+    edits: &mut [u16],
+    rules: &mut [u16],
+    tokens: &mut [u16],
+    counts: &mut [u64],
+) -> u32
+    ensures { λ r. ⌜ MarksAs (now (words .entry)) (now (log .entry)) (length (now (edits .entry))) (length (now (rules .entry)))
+        (length (now (tokens .entry))) (length (now (counts .entry))) r (now (edits .exit)) (now (rules .exit)) (now (tokens .exit))
+        (now (counts .exit)) ⌝ }
+{
+    base::clear_numbers(counts);
+    let marking = marks::marks(words, log, edits, rules, tokens);
+    match marking {
+        Marking::Marked(made, size) => {
+            put(counts, 0, made.moves as u64);
+            put(counts, 1, made.records as u64);
+            put(counts, 2, made.listed as u64);
+            put(counts, 3, size as u64);
+            0
+        }
+        Marking::Refused(refusal) => grammar::number_of(refusal),
     }
 }
 

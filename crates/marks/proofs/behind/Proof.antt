@@ -1,21 +1,17 @@
+-- `marks::behind` meets its contract, by the kind of the record.
 use native.Mathlib.Omega.{arith}
 use Rattle.marks.specs.Restoring.{behind-delete, behind-insert}
 use mathlib.Core.Path.{sym}
 use borrow.Author.Needs.{needs}
 use Rattle.marks.proofs.behind.Statement.{statement}
 use Rattle.marks.proofs.behind.Tie as tie
-use Rattle.marks.proofs.behind.Reads as reads
-use Rattle.marks.proofs.behind.Lts as lts
 
--- src/lib.rt:185:16
 add-result : tie.Need-add-result
 add-result c = search needs
 
--- src/lib.rt:185:9
 returns : tie.Need-returns
 returns c = sym (behind-delete _ (c .if1 .taken))
 
--- src/lib.rt:180:1
 returns-2 : tie.Need-returns-2
 returns-2 c = sym (behind-insert _ (c .if1 .left))
 

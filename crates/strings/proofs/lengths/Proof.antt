@@ -1,3 +1,4 @@
+-- `strings::lengths` meets its contract: behind d rounds the lengths are those at depth d; a round that changes nothing is the last.
 use borrow.Author.Needs.{needs}
 use native.Mathlib.Omega.{arith}
 use Rattle.strings.specs.Lengths.{Measured, measured-first, measured-goes, measured-stays, measured-all, can-round}
@@ -8,10 +9,6 @@ use borrow.Author.Needs.{needs}
 use native.Mathlib.Omega.{arith}
 use Rattle.strings.proofs.lengths.Statement.{statement}
 use Rattle.strings.proofs.lengths.Tie as tie
-use Rattle.strings.proofs.lengths.Reads as reads
-use Rattle.strings.proofs.lengths.Lts as lts
-use Rattle.strings.proofs.renew.Reads as renew-reads
-use Rattle.strings.proofs.round.Reads as round-reads
 
 abbrev Inv-loop : tie.InvT-loop
 Inv-loop table depth lengths₀ next₀ d₀ lengths next d = (d ≤ depth) × Measured table d lengths × (length next ≡ 64)
@@ -19,60 +16,77 @@ Inv-loop table depth lengths₀ next₀ d₀ lengths next d = (d ≤ depth) × M
 abbrev μ-loop : tie.MeasureT-loop
 μ-loop table depth lengths₀ next₀ d₀ lengths next d = depth - d
 
--- src/lib.rt:52:5
 loop-holds : tie.Need-loop-holds Inv-loop μ-loop
-loop-holds c = (omega arith, measured-first _ _ (c .before .before .pre .spells) (c .before .before .pre .size) (c .before .before .pre .zeros), refl)
+loop-holds c = (
+  omega arith,
+  measured-first _ _ (c .before .before .pre .spells) (c .before .before .pre .size) (c .before .before .pre .zeros),
+  refl,
+)
 
--- src/lib.rt:53:38
 slice-aggregate-round : tie.Need-slice-aggregate-round Inv-loop μ-loop
 slice-aggregate-round c = search needs
 
--- src/lib.rt:53:9
 round-requires : tie.Need-round-requires Inv-loop μ-loop
-round-requires c κs = can-round _ _ (c .before .before .before .before .before .before .pre .spells) (c .before .before .before .loop .d) (c .before .before .before .loop .inv .1) (c .before .before .loop-test .taken) (c .before .before .before .loop .inv .2)
+round-requires c κs =
+    let start = c .before .before .before .before .before .before in
+    let loop = c .before .before .before .loop in
+    can-round _ _ (start .pre .spells) (loop .d) (loop .inv .1) (c .before .before .loop-test .taken) (loop .inv .2)
 
--- src/lib.rt:54:25
 slice-aggregate-renew : tie.Need-slice-aggregate-renew Inv-loop μ-loop
 slice-aggregate-renew c = search needs
 
--- src/lib.rt:54:12
 renew-requires : tie.Need-renew-requires Inv-loop μ-loop
-renew-requires c κs = (
-  omega (arith, c .before .before .before .round .ensures .size, c .before .before .before .before .before .before .before .loop .inv .2, c .before .before .before .before .before .before .before .before .before .before .pre .spells .few),
-  omega (arith, c .before .before .before .before .before .before .before .loop .inv .1 .size, c .before .before .before .before .before .before .before .before .before .before .pre .spells .few),
-)
+renew-requires c κs =
+    let start = c .before .before .before .before .before .before .before .before .before .before in
+    let loop = c .before .before .before .before .before .before .before .loop in
+    let round = c .before .before .before .round in (
+      omega (arith, round .ensures .size, loop .inv .2, start .pre .spells .few),
+      omega (arith, loop .inv .1 .size, start .pre .spells .few),
+    )
 
--- src/lib.rt:55:13
 same-length : tie.Need-same-length Inv-loop μ-loop
-same-length c = c .before .before .before .renew .ensures .size ∙ (c .before .before .before .before .before .before .before .before .before .before .before .loop .inv .1 .size ∙ sym (c .before .before .before .before .before .before .before .before .before .before .before .before .before .before .pre .size))
+same-length c =
+    let start = c .before .before .before .before .before .before .before .before .before .before .before .before .before .before in
+    let loop = c .before .before .before .before .before .before .before .before .before .before .before .loop in
+    let renew = c .before .before .before .renew in
+    renew .ensures .size ∙ (loop .inv .1 .size ∙ sym (start .pre .size))
 
--- src/lib.rt:55:13
 returns : tie.Need-returns Inv-loop μ-loop
-returns c = measured-stays _ _ (c .before .before .before .before .before .before .before .before .before .before .before .before .before .before .pre .spells) (c .before .before .before .before .before .before .before .before .before .before .before .loop .d) (c .before .before .before .before .before .before .before .before .before .before .before .loop .inv .1) (c .before .before .before .before .before .before .before .round .ensures) (c .before .before .before .renew .ensures) (c .if1 .left) (c .before .before .before .before .before .before .before .before .before .before .loop-test .taken)
+returns c =
+    let start = c .before .before .before .before .before .before .before .before .before .before .before .before .before .before in
+    let loop = c .before .before .before .before .before .before .before .before .before .before .before .loop in
+    let test = c .before .before .before .before .before .before .before .before .before .before .loop-test in
+    let round = c .before .before .before .before .before .before .before .round in
+    let renew = c .before .before .before .renew in
+    measured-stays _ _ (start .pre .spells) (loop .d) (loop .inv .1) (round .ensures) (renew .ensures) (c .if1 .left) (test .taken)
 
--- src/lib.rt:57:9
 add-d : tie.Need-add-d Inv-loop μ-loop
 add-d c = search needs
 
--- src/lib.rt:52:5
 loop-less : tie.Need-loop-less Inv-loop μ-loop
 loop-less c = search needs
 
--- src/lib.rt:52:5
 loop-again : tie.Need-loop-again Inv-loop μ-loop
-loop-again c = (
-  omega (arith, c .before .before .before .before .before .before .before .before .before .before .loop-test .taken),
-  measured-goes _ _ (c .before .before .before .before .before .before .before .before .before .before .before .before .before .before .pre .spells) (c .before .before .before .before .before .before .before .before .before .before .before .loop .d) (c .before .before .before .before .before .before .before .before .before .before .before .loop .inv .1) (c .before .before .before .before .before .before .before .round .ensures) (c .before .before .before .renew .ensures),
-  c .before .before .before .before .before .before .before .round .ensures .size ∙ c .before .before .before .before .before .before .before .before .before .before .before .loop .inv .2,
-)
+loop-again c =
+    let start = c .before .before .before .before .before .before .before .before .before .before .before .before .before .before in
+    let loop = c .before .before .before .before .before .before .before .before .before .before .before .loop in
+    let test = c .before .before .before .before .before .before .before .before .before .before .loop-test in
+    let round = c .before .before .before .before .before .before .before .round in
+    let renew = c .before .before .before .renew in (
+      omega (arith, test .taken),
+      measured-goes _ _ (start .pre .spells) (loop .d) (loop .inv .1) (round .ensures) (renew .ensures),
+      round .ensures .size ∙ loop .inv .2,
+    )
 
--- src/lib.rt:46:1
 same-length-2 : tie.Need-same-length-2 Inv-loop μ-loop
-same-length-2 c = c .before .loop .inv .1 .size ∙ sym (c .before .before .before .before .pre .size)
+same-length-2 c =
+    let start = c .before .before .before .before in
+    c .before .loop .inv .1 .size ∙ sym (start .pre .size)
 
--- src/lib.rt:46:1
 returns-2 : tie.Need-returns-2 Inv-loop μ-loop
-returns-2 c = measured-all _ _ (c .before .before .before .before .pre .spells) (c .before .loop .inv .1) (omega (arith, c .before .loop .inv .0, c .loop-test .left))
+returns-2 c =
+    let start = c .before .before .before .before in
+    measured-all _ _ (start .pre .spells) (c .before .loop .inv .1) (omega (arith, c .before .loop .inv .0, c .loop-test .left))
 
 pub lengths-spec : {M : Type 1} → statement M
 lengths-spec =

@@ -1,3 +1,4 @@
+-- `strings::renew` meets its contract: k entries are taken over; where none differed, nothing changed.
 use borrow.Author.Needs.{needs}
 use native.Mathlib.Omega.{arith}
 use Rattle.strings.specs.Lengths.{Renewed}
@@ -9,8 +10,6 @@ use mathlib.Core.Logic.{⊎-elim}
 use mathlib.Core.Path.{refl, sym, _∙_}
 use Rattle.strings.proofs.renew.Statement.{statement}
 use Rattle.strings.proofs.renew.Tie as tie
-use Rattle.strings.proofs.renew.Reads as reads
-use Rattle.strings.proofs.renew.Lts as lts
 
 abbrev Inv-loop : tie.InvT-loop
 Inv-loop count next lengths₀ changed₀ k₀ lengths changed k = (k ≤ count) × Renewed k next lengths₀ lengths changed
@@ -18,59 +17,64 @@ Inv-loop count next lengths₀ changed₀ k₀ lengths changed k = (k ≤ count)
 abbrev μ-loop : tie.MeasureT-loop
 μ-loop count next lengths₀ changed₀ k₀ lengths changed k = count - k
 
--- src/lib.rt:81:5
 loop-holds : tie.Need-loop-holds Inv-loop μ-loop
 loop-holds c = (omega arith, renew-begins)
 
--- src/lib.rt:82:19
 mul-new : tie.Need-mul-new Inv-loop μ-loop
 mul-new c = omega (arith, c .before .before .pre .0)
 
--- src/lib.rt:82:19
 shared-slice-read-new : tie.Need-shared-slice-read-new Inv-loop μ-loop
-shared-slice-read-new c = omega (arith, c .before .before .before .pre .0, c .before .loop-test .taken)
+shared-slice-read-new c =
+    let start = c .before .before .before in
+    omega (arith, start .pre .0, c .before .loop-test .taken)
 
--- src/lib.rt:83:12
 mul-if1 : tie.Need-mul-if1 Inv-loop μ-loop
-mul-if1 c = omega (arith, c .before .before .loop .inv .1 .size, c .before .before .before .pre .1)
+mul-if1 c =
+    let start = c .before .before .before in
+    omega (arith, c .before .before .loop .inv .1 .size, start .pre .1)
 
--- src/lib.rt:83:12
 slice-read-if1 : tie.Need-slice-read-if1 Inv-loop μ-loop
-slice-read-if1 c = omega (arith, c .before .before .before .loop .inv .1 .size, c .before .before .before .before .pre .1, c .before .before .loop-test .taken)
+slice-read-if1 c =
+    let start = c .before .before .before .before in
+    let loop = c .before .before .before .loop in
+    omega (arith, loop .inv .1 .size, start .pre .1, c .before .before .loop-test .taken)
 
--- src/lib.rt:86:9
 mul-lengths : tie.Need-mul-lengths Inv-loop μ-loop
-mul-lengths c = omega (arith, c .before .before .before .before .loop .inv .1 .size, c .before .before .before .before .before .pre .1)
+mul-lengths c =
+    let start = c .before .before .before .before .before in
+    let loop = c .before .before .before .before .loop in
+    omega (arith, loop .inv .1 .size, start .pre .1)
 
--- src/lib.rt:86:9
 slice-write-lengths : tie.Need-slice-write-lengths Inv-loop μ-loop
-slice-write-lengths c = omega (arith, c .before .before .before .before .loop .inv .1 .size, c .before .before .before .before .before .pre .1, c .before .before .before .loop-test .taken)
+slice-write-lengths c =
+    let start = c .before .before .before .before .before in
+    let loop = c .before .before .before .before .loop in
+    let test = c .before .before .before .loop-test in
+    omega (arith, loop .inv .1 .size, start .pre .1, test .taken)
 
--- src/lib.rt:87:9
 add-k : tie.Need-add-k Inv-loop μ-loop
 add-k c = search needs
 
--- src/lib.rt:81:5
 loop-less : tie.Need-loop-less Inv-loop μ-loop
 loop-less c = search needs
 
--- src/lib.rt:81:5
 loop-again : tie.Need-loop-again Inv-loop μ-loop
-loop-again c = (
-  omega (arith, c .before .before .before .loop-test .taken),
-  renew-goes (omega (arith, c .before .before .before .before .loop .inv .1 .size, c .before .before .before .before .before .pre .1, c .before .before .before .loop-test .taken)) (c .before .before .before .before .loop .inv .1) refl
-      (λ f.
-      ⊎-elim
-      (λ w. differs (w .1) f)
-      (λ w. (sym (w .1) ∙ f, w .0 .left))
-      (c .if1 .came)),
-)
+loop-again c =
+    let start = c .before .before .before .before .before in
+    let loop = c .before .before .before .before .loop in
+    let test = c .before .before .before .loop-test in (
+      omega (arith, test .taken),
+      renew-goes (omega (arith, loop .inv .1 .size, start .pre .1, test .taken)) (loop .inv .1) refl
+          (λ f.
+          ⊎-elim
+          (λ w. differs (w .1) f)
+          (λ w. (sym (w .1) ∙ f, w .0 .left))
+          (c .if1 .came)),
+    )
 
--- src/lib.rt:74:1
 same-length : tie.Need-same-length Inv-loop μ-loop
 same-length c = c .before .loop .inv .1 .size
 
--- src/lib.rt:74:1
 returns : tie.Need-returns Inv-loop μ-loop
 returns c = renew-ends (omega (arith, c .before .loop .inv .0, c .loop-test .left)) (c .before .loop .inv .1)
 

@@ -1,6 +1,21 @@
+-- `strings::spell` meets its contract: what is written and what is still to be spelled make the string. The measure is the steps left.
 use borrow.Author.Needs.{needs}
 use native.Mathlib.Omega.{arith}
-use Rattle.strings.specs.Work.{Spelling, stepsLeft, spelling-begins, spelling-ends, spelling-up, spelling-token, spelling-room, spelling-pass, spelling-high, spelling-down, steps-up-less, steps-more-less, steps-down-less}
+use Rattle.strings.specs.Work.{
+  Spelling,
+  stepsLeft,
+  spelling-begins,
+  spelling-ends,
+  spelling-up,
+  spelling-token,
+  spelling-room,
+  spelling-pass,
+  spelling-high,
+  spelling-down,
+  steps-up-less,
+  steps-more-less,
+  steps-down-less,
+}
 use Prim.Native.Nat.{_+_, _-_, _/_, _%_, _≤_}
 use mathlib.Core.Path.{_≡_, refl, _∙_, ap}
 use lib.ListN.{length, length-set}
@@ -8,128 +23,183 @@ use borrow.Author.Needs.{needs}
 use native.Mathlib.Omega.{arith}
 use Rattle.strings.proofs.spell.Statement.{statement}
 use Rattle.strings.proofs.spell.Tie as tie
-use Rattle.strings.proofs.spell.Reads as reads
-use Rattle.strings.proofs.spell.Lts as lts
 
 abbrev Inv-loop : tie.InvT-loop
-Inv-loop table depth lengths symbol raise tokens₀ at stack₀ h₀ left₀ end₀ tokens stack h left end = (length tokens ≡ length tokens₀) × Spelling table depth symbol raise tokens₀ at stack h left tokens end
+Inv-loop table depth lengths symbol raise tokens₀ at stack₀ h₀ left₀ end₀ tokens stack h left end =
+    (length tokens ≡ length tokens₀) × Spelling table depth symbol raise tokens₀ at stack h left tokens end
 
 abbrev μ-loop : tie.MeasureT-loop
 μ-loop table depth lengths symbol raise tokens₀ at stack₀ h₀ left₀ end₀ tokens stack h left end = stepsLeft table depth stack h left
 
--- src/lib.rt:136:5
 loop-holds : tie.Need-loop-holds Inv-loop μ-loop
-loop-holds c = (refl, spelling-begins _ _ _ _ _ _ _ refl (c .pre .low) (omega (arith, c .pre .high)) (c .pre .deep) (omega (arith, c .pre .room)))
+loop-holds c =
+    (refl, spelling-begins _ _ _ _ _ _ _ refl (c .pre .low) (omega (arith, c .pre .high)) (c .pre .deep) (omega (arith, c .pre .room)))
 
--- src/lib.rt:139:17
 same-length : tie.Need-same-length Inv-loop μ-loop
 same-length c = c .before .before .loop .inv .0
 
--- src/lib.rt:139:17
 returns : tie.Need-returns Inv-loop μ-loop
 returns c = spelling-ends (c .before .before .loop .inv .1) (c .before .if1 .taken) (c .if2 .taken)
 
--- src/lib.rt:141:13
 sub-h : tie.Need-sub-h Inv-loop μ-loop
 sub-h c = omega (arith, c .if2 .left)
 
--- src/lib.rt:142:20
 mul-left : tie.Need-mul-left Inv-loop μ-loop
-mul-left c = omega (arith, c .before .before .loop .inv .1 .low, c .before .before .before .pre .spells .few)
+mul-left c =
+    let start = c .before .before .before in
+    omega (arith, c .before .before .loop .inv .1 .low, start .pre .spells .few)
 
--- src/lib.rt:142:20
 array-read-left : tie.Need-array-read-left Inv-loop μ-loop
-array-read-left c = omega (arith, c .if2 .left, c .before .before .loop .inv .1 .low, c .before .before .before .pre .spells .few)
+array-read-left c =
+    let start = c .before .before .before in
+    omega (arith, c .if2 .left, c .before .before .loop .inv .1 .low, start .pre .spells .few)
 
--- src/lib.rt:136:5
 loop-less : tie.Need-loop-less Inv-loop μ-loop
 loop-less c = steps-up-less _ _ _ _ _ _ (omega (arith, c .if2 .left)) (c .before .if1 .taken)
 
--- src/lib.rt:136:5
 loop-again : tie.Need-loop-again Inv-loop μ-loop
-loop-again c = (c .before .before .loop .inv .0, spelling-up (c .before .before .loop .inv .1) _ (omega (arith, c .if2 .left)) (c .before .if1 .taken))
+loop-again c = (
+  c .before .before .loop .inv .0,
+  spelling-up (c .before .before .loop .inv .1) _ (omega (arith, c .if2 .left))
+      (c .before .if1 .taken),
+)
 
--- src/lib.rt:147:31
 cast-tokens : tie.Need-cast-tokens Inv-loop μ-loop
 cast-tokens c = omega (arith, c .if3 .taken)
 
--- src/lib.rt:147:31
 add-tokens : tie.Need-add-tokens Inv-loop μ-loop
-add-tokens c = omega (arith, c .if3 .taken, c .before .before .before .pre .small)
+add-tokens c =
+    let start = c .before .before .before in
+    omega (arith, c .if3 .taken, start .pre .small)
 
--- src/lib.rt:147:17
 mul-tokens : tie.Need-mul-tokens Inv-loop μ-loop
-mul-tokens c = omega (arith, spelling-room (c .before .before .loop .inv .1) (omega (arith, c .before .if1 .left)) (c .if3 .taken), c .before .before .before .pre .room, c .before .before .before .good)
+mul-tokens c =
+    let start = c .before .before .before in
+    omega (
+      arith,
+      spelling-room (c .before .before .loop .inv .1) (omega (arith, c .before .if1 .left)) (c .if3 .taken),
+      start .pre .room,
+      start .good,
+    )
 
--- src/lib.rt:147:17
 slice-write-tokens : tie.Need-slice-write-tokens Inv-loop μ-loop
-slice-write-tokens c = omega (arith, spelling-room (c .before .before .loop .inv .1) (omega (arith, c .before .if1 .left)) (c .if3 .taken), c .before .before .before .pre .room, c .before .before .loop .inv .0)
+slice-write-tokens c =
+    let start = c .before .before .before in
+    omega (
+      arith,
+      spelling-room (c .before .before .loop .inv .1) (omega (arith, c .before .if1 .left)) (c .if3 .taken),
+      start .pre .room,
+      c .before .before .loop .inv .0,
+    )
 
--- src/lib.rt:148:17
 add-end : tie.Need-add-end Inv-loop μ-loop
-add-end c = omega (arith, spelling-room (c .before .before .loop .inv .1) (omega (arith, c .before .if1 .left)) (c .if3 .taken), c .before .before .before .pre .room, c .before .before .before .good)
+add-end c =
+    let start = c .before .before .before in
+    omega (
+      arith,
+      spelling-room (c .before .before .loop .inv .1) (omega (arith, c .before .if1 .left)) (c .if3 .taken),
+      start .pre .room,
+      start .good,
+    )
 
--- src/lib.rt:136:5
 loop-less-2 : tie.Need-loop-less-2 Inv-loop μ-loop
 loop-less-2 c = steps-more-less _ _ _ _ _ (omega (arith, c .before .if1 .left))
 
--- src/lib.rt:136:5
 loop-again-2 : tie.Need-loop-again-2 Inv-loop μ-loop
-loop-again-2 c = (
-  length-set (c .before .before .loop .tokens) (c .before .before .loop .end)
-      (c .before .before .loop .left % 256 + c .before .before .before .args .raise)
-      ∙ c .before .before .loop .inv .0,
-  spelling-token (c .before .before .loop .inv .1) (omega (arith, c .before .if1 .left)) (c .if3 .taken) (c .before .before .before .pre .room),
-)
+loop-again-2 c =
+    let start = c .before .before .before in (
+      length-set (c .before .before .loop .tokens) (c .before .before .loop .end)
+          (c .before .before .loop .left % 256 + start .args .raise)
+          ∙ c .before .before .loop .inv .0,
+      spelling-token (c .before .before .loop .inv .1) (omega (arith, c .before .if1 .left)) (c .if3 .taken) (start .pre .room),
+    )
 
--- src/lib.rt:149:27
 mul-if4 : tie.Need-mul-if4 Inv-loop μ-loop
 mul-if4 c = omega arith
 
--- src/lib.rt:149:27
 shared-slice-read-if4 : tie.Need-shared-slice-read-if4 Inv-loop μ-loop
-shared-slice-read-if4 c = omega (arith, spelling-high (c .before .before .before .loop .inv .1) (omega (arith, c .before .before .if1 .left)) (omega (arith, c .before .if3 .left)) .1, c .before .before .before .before .pre .measured .size)
+shared-slice-read-if4 c =
+    let start = c .before .before .before .before in
+    let loop = c .before .before .before .loop in
+    omega (
+      arith,
+      spelling-high (loop .inv .1) (omega (arith, c .before .before .if1 .left)) (omega (arith, c .before .if3 .left)) .1,
+      start .pre .measured .size,
+    )
 
--- src/lib.rt:150:17
 mul-stack : tie.Need-mul-stack Inv-loop μ-loop
-mul-stack c = omega (arith, c .before .before .before .before .loop .inv .1 .low, c .before .before .before .before .before .pre .spells .few)
+mul-stack c =
+    let start = c .before .before .before .before .before in
+    let loop = c .before .before .before .before .loop in
+    omega (arith, loop .inv .1 .low, start .pre .spells .few)
 
--- src/lib.rt:150:17
 array-write-stack : tie.Need-array-write-stack Inv-loop μ-loop
-array-write-stack c = omega (arith, spelling-high (c .before .before .before .before .loop .inv .1) (omega (arith, c .before .before .before .if1 .left)) (omega (arith, c .before .before .if3 .left)) .0, c .before .before .before .before .before .pre .spells .few)
+array-write-stack c =
+    let start = c .before .before .before .before .before in
+    let loop = c .before .before .before .before .loop in
+    let if1 = c .before .before .before .if1 in
+    omega (
+      arith,
+      spelling-high (loop .inv .1) (omega (arith, if1 .left)) (omega (arith, c .before .before .if3 .left)) .0,
+      start .pre .spells .few,
+    )
 
--- src/lib.rt:151:17
 add-h : tie.Need-add-h Inv-loop μ-loop
-add-h c = omega (arith, c .before .before .before .before .loop .inv .1 .low, c .before .before .before .before .before .pre .spells .few)
+add-h c =
+    let start = c .before .before .before .before .before in
+    let loop = c .before .before .before .before .loop in
+    omega (arith, loop .inv .1 .low, start .pre .spells .few)
 
--- src/lib.rt:152:24
 mul-left-2 : tie.Need-mul-left-2 Inv-loop μ-loop
 mul-left-2 c = omega arith
 
--- src/lib.rt:152:24
 shared-slice-read-left : tie.Need-shared-slice-read-left Inv-loop μ-loop
-shared-slice-read-left c = omega (arith, spelling-high (c .before .before .before .before .before .loop .inv .1) (omega (arith, c .before .before .before .before .if1 .left)) (omega (arith, c .before .before .before .if3 .left)) .1, c .before .before .before .before .before .before .pre .spells .size)
+shared-slice-read-left c =
+    let start = c .before .before .before .before .before .before in
+    let loop = c .before .before .before .before .before .loop in
+    let if1 = c .before .before .before .before .if1 in
+    let if3 = c .before .before .before .if3 in
+    omega (arith, spelling-high (loop .inv .1) (omega (arith, if1 .left)) (omega (arith, if3 .left)) .1, start .pre .spells .size)
 
--- src/lib.rt:136:5
 loop-less-3 : tie.Need-loop-less-3 Inv-loop μ-loop
-loop-less-3 c = let high = spelling-high (c .before .before .before .before .before .loop .inv .1) (omega (arith, c .before .before .before .before .if1 .left)) (omega (arith, c .before .before .before .if3 .left)) in
-    steps-down-less _ _ _ _ _ (omega (arith, c .before .before .before .before .if1 .left)) (high .0) (omega (arith, high .0, c .before .before .before .before .before .before .pre .spells .few, c .before .before .before .before .before .loop .inv .1 .cells)) (omega (arith, c .before .before .before .if3 .left))
+loop-less-3 c =
+    let start = c .before .before .before .before .before .before in
+    let loop = c .before .before .before .before .before .loop in
+    let if1 = c .before .before .before .before .if1 in
+    let if3 = c .before .before .before .if3 in
+    let high = spelling-high (loop .inv .1) (omega (arith, if1 .left)) (omega (arith, if3 .left)) in
+    steps-down-less _ _ _ _ _ (omega (arith, if1 .left)) (high .0) (omega (
+      arith,
+      high .0,
+      start .pre .spells .few,
+      loop .inv .1 .cells,
+    )) (omega (arith, if3 .left))
 
--- src/lib.rt:136:5
 loop-again-3 : tie.Need-loop-again-3 Inv-loop μ-loop
-loop-again-3 c = (c .before .before .before .before .before .loop .inv .0, spelling-down (c .before .before .before .before .before .loop .inv .1) (omega (arith, c .before .before .before .before .if1 .left)) (c .before .before .before .before .before .before .pre .spells .few) (omega (arith, c .before .before .before .if3 .left)))
+loop-again-3 c =
+    let start = c .before .before .before .before .before .before in
+    let loop = c .before .before .before .before .before .loop in
+    let if1 = c .before .before .before .before .if1 in
+    let if3 = c .before .before .before .if3 in
+    (loop .inv .0, spelling-down (loop .inv .1) (omega (arith, if1 .left)) (start .pre .spells .few) (omega (arith, if3 .left)))
 
--- src/lib.rt:136:5
 loop-less-4 : tie.Need-loop-less-4 Inv-loop μ-loop
-loop-less-4 c = steps-more-less _ _ _ _ _ (omega (arith, c .before .before .before .if1 .left))
+loop-less-4 c =
+    let if1 = c .before .before .before .if1 in
+    steps-more-less _ _ _ _ _ (omega (arith, if1 .left))
 
--- src/lib.rt:136:5
 loop-again-4 : tie.Need-loop-again-4 Inv-loop μ-loop
-loop-again-4 c = (
-  c .before .before .before .before .loop .inv .0,
-  spelling-pass (c .before .before .before .before .loop .inv .1) (omega (arith, c .before .before .before .if1 .left)) (c .before .before .before .before .before .pre .measured) (omega (arith, c .before .before .if3 .left))
-      (spelling-high (c .before .before .before .before .loop .inv .1) (omega (arith, c .before .before .before .if1 .left)) (omega (arith, c .before .before .if3 .left)) .1) (omega (arith, c .if4 .left)),
-)
+loop-again-4 c =
+    let start = c .before .before .before .before .before in
+    let loop = c .before .before .before .before .loop in
+    let if1 = c .before .before .before .if1 in (
+      loop .inv .0,
+      spelling-pass (loop .inv .1) (omega (arith, if1 .left)) (start .pre .measured) (omega (arith, c .before .before .if3 .left))
+          (spelling-high (loop .inv .1) (omega (arith, if1 .left)) (omega (arith, c .before .before .if3 .left)) .1) (omega (
+            arith,
+            c .if4 .left,
+          )),
+    )
 
 pub spell-spec : {M : Type 1} → statement M
 spell-spec =
