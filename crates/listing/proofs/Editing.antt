@@ -8,7 +8,7 @@ use lib.Seq.{drop-cons}
 use Rattle.grammar.specs.Moves.{Edit}
 use Rattle.grammar.specs.Listing.{editLine, editLines}
 use Rattle.listing.specs.Answer.{Appends, recordsOf}
-use Rattle.listing.proofs.Writing.{put-none, put-then, put-as}
+use Rattle.listing.specs.Writing.{put-none, put-then, put-as}
 
 -- The lines `done` of the records in front of word i are written, and the others are left.
 pub record Editing (old : List ℕ) (at : ℕ) (words out : List ℕ) (next i : ℕ) : Type 0 where

@@ -1,5 +1,4 @@
--- What the functions' proofs cite: what a buffer holds on the way, the digits of a number, and the parts of an input.
-mod Writing
+-- What the functions' proofs cite: the digits of a number, the parts of an input, and its edit lines.
 mod Numbers
 mod Inputs
 mod Entries

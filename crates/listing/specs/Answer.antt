@@ -5,10 +5,14 @@ use mathlib.Core.List.{List, [], _∷_, _++_}
 use lib.ListN.{length, take, drop}
 use Rattle.grammar.specs.Moves.{Edit}
 use Rattle.grammar.specs.Refusals.{Outcome, given, refused}
-use Rattle.grammar.specs.Listing.{Counted, blocksEnd}
+use Rattle.grammar.specs.File.{FileRead}
+use Rattle.grammar.specs.Listing.{Counted, blocksEnd, fileOf, tokensOf, ticksOf}
+use Rattle.grammar.specs.declared.Refusal.{Refusal}
 use Rattle.grammar.specs.declared.Refusal.the-variants.{BadSize}
 use Rattle.listing.specs.declared.input.Blocks.{Blocks}
 use Rattle.listing.specs.declared.input.Blocks.the-variants.{EndAt, Refused}
+use Rattle.listing.specs.declared.input.Taken.{Taken}
+use Rattle.listing.specs.declared.input.Taken.the-variants.{Apart, Refused as NotTaken}
 
 -- What each answer stands for: where the blocks end, or the refusal.
 abbrev pub endOf : Blocks → Outcome ℕ
@@ -25,6 +29,16 @@ pub data InputCounted (input : List ℕ) : Outcome ℕ → Type 0 where
 pub record Wrote (old new buffer : List ℕ) (count : ℕ) : Type 0 where
   pub number : count ≡ length (take (length old) new)
   pub holds : buffer ≡ take (length old) new ++ drop count old
+
+-- An input taken apart: how many words, tokens and ticks it has as far as the lent buffers hold them, and these in front of the buffers;
+-- or the refusal of its count or its file.
+pub data TakenApart (input oldWords oldTokens oldTicks : List ℕ) : Taken → List ℕ → List ℕ → List ℕ → Type 0 where
+  uncounted : (Counted input → ⊥) → TakenApart input oldWords oldTokens oldTicks (NotTaken BadSize) oldWords oldTokens oldTicks
+  unread : {r : Refusal} {words : List ℕ} → Counted input → FileRead (fileOf input) (length oldWords) (refused r) words
+      → TakenApart input oldWords oldTokens oldTicks (NotTaken r) words oldTokens oldTicks
+  apart : {n k t : ℕ} {words tokens ticks : List ℕ} → Counted input → FileRead (fileOf input) (length oldWords) (given n) words
+      → Wrote oldTokens (tokensOf input) tokens k → Wrote oldTicks (ticksOf input) ticks t
+      → TakenApart input oldWords oldTokens oldTicks (Apart n k t) words tokens ticks
 
 -- The bytes `new` are written behind those that end at `at`: whatever stands there by then, they go on with it.
 pub record Appends (before : List ℕ) (at : ℕ) (new after : List ℕ) (next : ℕ) : Type 0 where

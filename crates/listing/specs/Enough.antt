@@ -12,7 +12,7 @@ use lib.Seq.{take-all, take-take, getD-take, length-take-le}
 use Rattle.grammar.specs.File.{pairAt, FileRead}
 use Rattle.grammar.specs.Moves.{Move}
 use Rattle.grammar.specs.Grammar.{grammarConditions}
-use Rattle.grammar.specs.Run.{LogFits, runConditions, Settled}
+use Rattle.grammar.specs.Run.{LogFits, runConditions, Settled, Parses}
 use Rattle.grammar.specs.Pace.{Reports, Reported}
 use Rattle.grammar.specs.Refusals.{Outcome, given, refused}
 use Rattle.grammar.specs.Listing.{
@@ -38,7 +38,7 @@ entries-length value at (suc n) = ap suc (entries-length value (at + 6) n)
 
 -- ---- Two logs over 4,096 tokens get the same answer
 
-too-long : {A : Type 0} {ws log : List ℕ} → 4096 < length log → LogFits ws log → A
+pub too-long : {A : Type 0} {ws log : List ℕ} → 4096 < length log → LogFits ws log → A
 too-long long fits = absurd (omega (arith, fits .count))
 
 settled-other : {Asked Asked′ : Type 0} {ws log log′ : List ℕ} {Runs Runs′ : List Move → Option Refusal → Type 0}
@@ -48,6 +48,20 @@ settled-other long long′ (Settled.whole l r) = too-long long (log-held l .0)
 settled-other {ws = ws} long long′ (Settled.before l) =
     Settled.before (lowest-last (grammarConditions ws) BadLog (λ h. too-long long (h .0)) (λ h. too-long long′ (h .0)) l)
 settled-other long long′ (Settled.within l r) = too-long long (log-held l .0)
+
+pub parses-other : {Asked Asked′ : Type 0} {ws log log′ x y : List ℕ} {editRoom ruleRoom : ℕ} {o : Outcome (List Move)}
+    → 4096 < length log → 4096 < length log′ → Parses Asked ws log editRoom ruleRoom o x y → Parses Asked′ ws log′ editRoom ruleRoom o x y
+parses-other long long′ p =
+    record { settled = settled-other long long′ (p .settled); leaves-edits = p .leaves-edits; leaves-rules = p .leaves-rules }
+
+settled-held : {Asked : Type 0} {ws log : List ℕ} {Runs : List Move → Option Refusal → Type 0} {ms : List Move}
+    → Settled (runConditions ws log Asked) Runs (given ms) → LogFits ws log × Asked
+settled-held (Settled.whole l r) = log-held l
+
+-- A log that is parsed fits, with what else is asked.
+pub parsed-held : {Asked : Type 0} {ws log x y : List ℕ} {editRoom ruleRoom : ℕ} {ms : List Move}
+    → Parses Asked ws log editRoom ruleRoom (given ms) x y → LogFits ws log × Asked
+parsed-held p = settled-held (p .settled)
 
 reports-fits : {Asked : Type 0} {ws log ticks : List ℕ} {Runs : List Move → Option Refusal → Type 0} {o : Outcome (List Move)}
     {a : Report × Counts} → Reports ws ticks o (given a) → Settled (runConditions ws log Asked) Runs o → LogFits ws log
@@ -68,16 +82,10 @@ pub reported-other : {ws log ticks log′ ticks′ x y : List ℕ} {editRoom rul
     → 4096 < length log → 4096 < length log′ → Reported ws log ticks editRoom ruleRoom a x y
     → Reported ws log′ ticks′ editRoom ruleRoom a x y
 reported-other long long′ p =
-    let parse = p .parses in
     record {
       outcome = p .outcome;
-      parses =
-          record {
-            settled = settled-other long long′ (parse .settled);
-            leaves-edits = parse .leaves-edits;
-            leaves-rules = parse .leaves-rules;
-          };
-      reports = reports-other long (parse .settled) (p .reports);
+      parses = parses-other long long′ (p .parses);
+      reports = reports-other long (p .parses .settled) (p .reports);
     }
 
 -- ---- The first 4,097 tokens and ticks, or more, are enough
@@ -92,7 +100,28 @@ reported-front {ws} {log} {ticks} {x} {y} {editRoom} {ruleRoom} {a} room enough 
     subst (λ l. Reported ws l ticks editRoom ruleRoom a x y) (take-all room log (omega arith))
     (subst (λ t. Reported ws (take room log) t editRoom ruleRoom a x y) (take-all room ticks (omega arith)) p))
 
+-- The same of a parse that asks for as many ticks as tokens.
+pub parses-front : {ws log x y : List ℕ} {editRoom ruleRoom : ℕ} {o : Outcome (List Move)} (room : ℕ) (ticks : List ℕ) → 4096 < room
+    → length ticks ≤ length log
+    → Parses (length (take room ticks) ≡ length (take room log)) ws (take room log) editRoom ruleRoom o x y
+    → Parses (length ticks ≡ length log) ws log editRoom ruleRoom o x y
+parses-front {ws} {log} {x} {y} {editRoom} {ruleRoom} {o} room ticks enough fewer p =
+    dite (decLt room (length log))
+    (λ more. parses-other (omega (arith, length-take-le room log (omega arith))) (omega arith) p)
+    (λ less.
+    subst (λ l. Parses (length ticks ≡ length l) ws l editRoom ruleRoom o x y) (take-all room log (omega arith))
+    (subst (λ t. Parses (length t ≡ length (take room log)) ws (take room log) editRoom ruleRoom o x y)
+    (take-all room ticks (omega arith)) p))
+
 -- ---- The first 30,216 bytes, or more, are enough
+
+-- An input that goes on behind those bytes, which are `front`: what they tell of it. Both have too many tokens.
+pub record GoesOn (front input : List ℕ) : Type 0 where
+  pub fewer : Counted input → Counted front
+  pub counted : Counted front → Counted input
+  pub file : Counted front → fileOf front ≡ fileOf input
+  pub long-front : Counted front → 4096 < length (tokensOf front)
+  pub long : Counted front → 4096 < length (tokensOf input)
 
 -- The front of what stands behind the first two.
 front-behind : (m k : ℕ) (l : List ℕ) → m + 2 ≤ k → take m (drop 2 (take k l)) ≡ take m (drop 2 l)
@@ -152,18 +181,28 @@ module _ (input : List ℕ) (kept : ℕ) (enough : 30216 ≤ kept) (longer : kep
       let high = whole-counted c .high in
       omega (arith, entries-length (pairAt input) (blocksEnd input) ((length input - blocksEnd input + 5) / 6))
 
-  printed-longer : {output : List ℕ} → Printed front output → Printed input output
-  printed-longer (Printed.uncounted n) = Printed.uncounted (λ c. n (front-counted c))
-  printed-longer (Printed.unread {r = r} {words = words} c f) =
-      Printed.unread (whole-counted c) (subst (λ b. FileRead b 2783 (refused r) words) (same-file c) f)
-  printed-longer (Printed.unreported {n = n} {words = words} c f p) =
-      Printed.unreported (whole-counted c) (subst (λ b. FileRead b 2783 (given n) words) (same-file c) f)
-      (reported-other (front-long c) (whole-long c) p)
-  printed-longer (Printed.listed c f p e) = too-long (front-long c) (reported-fits p)
+  goes-on : GoesOn (take kept input) input
+  unfolding front
+  goes-on =
+      record { fewer = front-counted; counted = whole-counted; file = same-file; long-front = front-long; long = whole-long }
+
+-- Lines that are the same where an input goes on are told by its first 30,216 bytes or more.
+pub by-front : (Lines : List ℕ → List ℕ → Type 0) {input output : List ℕ} (kept : ℕ) → 30216 ≤ kept
+    → (GoesOn (take kept input) input → Lines (take kept input) output → Lines input output)
+    → Lines (take kept input) output → Lines input output
+by-front Lines {input} {output} kept enough longer p =
+    dite (decLt kept (length input))
+    (λ more. longer (goes-on input kept enough more) p)
+    (λ less. subst (λ l. Lines l output) (take-all kept input (omega arith)) p)
+
+printed-longer : {front input output : List ℕ} → GoesOn front input → Printed front output → Printed input output
+printed-longer g (Printed.uncounted n) = Printed.uncounted (λ c. n (g .fewer c))
+printed-longer g (Printed.unread {r = r} {words = words} c f) =
+    Printed.unread (g .counted c) (subst (λ b. FileRead b 2783 (refused r) words) (g .file c) f)
+printed-longer g (Printed.unreported {n = n} {words = words} c f p) =
+    Printed.unreported (g .counted c) (subst (λ b. FileRead b 2783 (given n) words) (g .file c) f)
+    (reported-other (g .long-front c) (g .long c) p)
+printed-longer g (Printed.listed c f p e) = too-long (g .long-front c) (reported-fits p)
 
 pub printed-front : {input output : List ℕ} (kept : ℕ) → 30216 ≤ kept → Printed (take kept input) output → Printed input output
-unfolding front
-printed-front {input} {output} kept enough p =
-    dite (decLt kept (length input))
-    (λ more. printed-longer input kept enough more p)
-    (λ less. subst (λ l. Printed l output) (take-all kept input (omega arith)) p)
+printed-front kept enough p = by-front Printed kept enough printed-longer p

@@ -104,7 +104,7 @@ pub record Kept (input words log ticks : List ℕ) : Type 0 where
   pub tokens : log ≡ take room (tokensOf input)
   pub times : ticks ≡ take room (ticksOf input)
 
-fewer-ticks : (input : List ℕ) → length (ticksOf input) ≤ length (tokensOf input)
+pub fewer-ticks : (input : List ℕ) → length (ticksOf input) ≤ length (tokensOf input)
 fewer-ticks input =
     let left : ℕ = length input - blocksEnd input in
     let end : ℕ = blocksEnd input in
@@ -132,11 +132,9 @@ pub kept-refused : {input words log ticks x y : List ℕ} {r : Refusal} → Kept
     → Reported words log ticks 24576 16384 (refused r) x y → Printed input (refusedLine (numberOf r))
 kept-refused k p = Printed.unreported (k .counted) (k .file .read) (whole-report k p)
 
--- A log that is reported fits, so that all of it was kept.
-all-tokens : {input words log ticks x y : List ℕ} {a : Report × Counts} (k : Kept input words log ticks)
-    → Reported words log ticks 24576 16384 (given a) x y → log ≡ tokensOf input
-all-tokens {input} {log = log} k q =
-    let most : length log ≤ 4096 = reported-fits q .count in
+-- A log of at most 4,096 tokens was kept whole,
+pub all-tokens : {input words log ticks : List ℕ} (k : Kept input words log ticks) → length log ≤ 4096 → log ≡ tokensOf input
+all-tokens {input} {log = log} k most =
     let size : length log ≡ length (take (k .room) (tokensOf input)) = ap length (k .tokens) in
     let enough = k .enough in
     k .tokens
@@ -145,11 +143,16 @@ all-tokens {input} {log = log} k q =
     (λ more. absurd (omega (arith, length-take-le (k .room) (tokensOf input) (omega arith))))
     (λ less. omega arith))
 
+-- and so were its ticks.
+pub all-ticks : {input words log ticks : List ℕ} (k : Kept input words log ticks) → length log ≤ 4096 → ticks ≡ ticksOf input
+all-ticks {input} k most =
+    k .times ∙ take-all (k .room) (ticksOf input) (omega (arith, fewer-ticks input, ap length (all-tokens k most), k .enough))
+
 pub kept-listed : {input words log ticks x y : List ℕ} {report : Report} {counts : Counts} → Kept input words log ticks
     → Reported words log ticks 24576 16384 (given (report, counts)) x y
     → Printed input (listing (length log) counts (recordsOf (take (3 * counts .records) x)) report)
 kept-listed {input} {report = report} {counts = counts} k q =
     let whole = whole-report k q in
     let m = moves-of whole in
-    subst₂ (λ (l : List ℕ) (es : List Edit). Printed input (listing (length l) counts es report)) (sym (all-tokens k q))
-    (sym (records-front m)) (Printed.listed (k .counted) (k .file .read) whole (m .ends))
+    subst₂ (λ (l : List ℕ) (es : List Edit). Printed input (listing (length l) counts es report))
+    (sym (all-tokens k (reported-fits q .count))) (sym (records-front m)) (Printed.listed (k .counted) (k .file .read) whole (m .ends))

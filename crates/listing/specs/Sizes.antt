@@ -36,7 +36,7 @@ use Rattle.grammar.specs.declared.Pace.the-variants.{Idle, Mean}
 use Rattle.grammar.specs.declared.Report.{Report}
 use Rattle.listing.specs.Answer.{Wrote, recordsOf}
 
-digits-length : (k j n : ℕ) → n < 10 ^ suc k → length (digits j n) ≤ suc k
+pub digits-length : (k j n : ℕ) → n < 10 ^ suc k → length (digits j n) ≤ suc k
 unfolding digits
 digits-length k zero n l = omega arith
 digits-length zero (suc j) n l =
@@ -51,15 +51,15 @@ digits-length (suc k) (suc j) n l =
     simp (le-ltb n 10 more, length-append) (omega (arith, digits-length k j (n / 10) tenth)))
 
 -- A number of 64 bits, and a word.
-decimal-long : (n : ℕ) → n < 2 ^ 64 → length (decimal n) ≤ 20
+pub decimal-long : (n : ℕ) → n < 2 ^ 64 → length (decimal n) ≤ 20
 unfolding decimal
 decimal-long n l = digits-length 19 n n (omega arith)
 
-decimal-word : (n : ℕ) → n < 65536 → length (decimal n) ≤ 5
+pub decimal-word : (n : ℕ) → n < 65536 → length (decimal n) ≤ 5
 unfolding decimal
 decimal-word n l = digits-length 4 n n (omega arith)
 
-field-length : (word : String) (n : ℕ) → length (field word n) ≡ length (ascii word) + length (decimal n)
+pub field-length : (word : String) (n : ℕ) → length (field word n) ≡ length (ascii word) + length (decimal n)
 unfolding field
 field-length word n = length-append (ascii word) (decimal n)
 

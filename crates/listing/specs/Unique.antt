@@ -14,19 +14,22 @@ use Rattle.grammar.specs.Refusals.{Outcome, given, refused, numberOf}
 use Rattle.grammar.specs.theory.Outcomes.{given-refused, given-same, refused-same}
 use Rattle.grammar.specs.Listing.{Printed, refusedLine, listing, tokensOf}
 use Rattle.grammar.specs.declared.Counts.{Counts}
+use Rattle.grammar.specs.declared.Refusal.{Refusal}
 use Rattle.grammar.specs.declared.Report.{Report}
 use Rattle.listing.specs.declared.input.Blocks.{Blocks}
 use Rattle.listing.specs.declared.input.Blocks.the-variants.{EndAt, Refused}
-use Rattle.listing.specs.Answer.{Appends, InputCounted, Wrote, endOf}
+use Rattle.listing.specs.declared.input.Taken.{Taken}
+use Rattle.listing.specs.declared.input.Taken.the-variants.{Refused as NotTaken}
+use Rattle.listing.specs.Answer.{Appends, InputCounted, TakenApart, Wrote, endOf}
 use Rattle.grammar.specs.theory.Answers.{parses-unique}
 use Rattle.grammar.specs.theory.Sentences.{file-read-unique, reported-unique}
 
 -- Two readings of one file give the same words.
-same-words : {bytes x y : List ℕ} {n m : ℕ} → FileRead bytes 2783 (given n) x → FileRead bytes 2783 (given m) y → take n x ≡ take m y
+pub same-words : {bytes x y : List ℕ} {n m : ℕ} → FileRead bytes 2783 (given n) x → FileRead bytes 2783 (given m) y → take n x ≡ take m y
 same-words p q = let same = file-read-unique p q in cc (given-same (same .0), same .1)
 
-read-or-refused : {A : Type 0} {bytes x y : List ℕ} {n : ℕ} {r : _} → FileRead bytes 2783 (given n) x
-    → FileRead bytes 2783 (refused r) y → A
+pub read-or-refused : {A : Type 0} {bytes x y : List ℕ} {room n : ℕ} {r : Refusal} → FileRead bytes room (given n) x
+    → FileRead bytes room (refused r) y → A
 read-or-refused p q = absurd (given-refused refl (file-read-unique p q .0))
 
 -- Two reports on the same words, tokens and ticks.
@@ -85,6 +88,26 @@ pub wrote-unique : {old new x y : List ℕ} {n m : ℕ} → Wrote old new x n �
 wrote-unique {old} {new} p q =
     let same = p .number ∙ sym (q .number) in
     (same, p .holds ∙ (ap (λ k. take (length old) new ++ drop k old) same ∙ sym (q .holds)))
+
+-- An input taken apart: the answer and the three buffers.
+pub taken-unique : {input oldWords oldTokens oldTicks x y z u v w : List ℕ} {a b : Taken}
+    → TakenApart input oldWords oldTokens oldTicks a x y z → TakenApart input oldWords oldTokens oldTicks b u v w
+    → (a ≡ b) × ((x ≡ u) × ((y ≡ v) × (z ≡ w)))
+taken-unique (TakenApart.uncounted n) (TakenApart.uncounted m) = (refl, (refl, (refl, refl)))
+taken-unique (TakenApart.uncounted n) (TakenApart.unread c f) = absurd (n c)
+taken-unique (TakenApart.uncounted n) (TakenApart.apart c f p q) = absurd (n c)
+taken-unique (TakenApart.unread c f) (TakenApart.uncounted n) = absurd (n c)
+taken-unique (TakenApart.unread c f) (TakenApart.unread d g) =
+    let same = file-read-unique f g in
+    (ap NotTaken (refused-same (same .0)), (same .1, (refl, refl)))
+taken-unique (TakenApart.unread c f) (TakenApart.apart d g p q) = read-or-refused g f
+taken-unique (TakenApart.apart c f p q) (TakenApart.uncounted n) = absurd (n c)
+taken-unique (TakenApart.apart c f p q) (TakenApart.unread d g) = read-or-refused f g
+taken-unique (TakenApart.apart c f p q) (TakenApart.apart d g r s) =
+    let same = file-read-unique f g in
+    let tokens = wrote-unique p r in
+    let ticks = wrote-unique q s in
+    (cc (given-same (same .0), tokens .0, ticks .0), (same .1, (tokens .1, ticks .1)))
 
 -- What was written behind other bytes.
 pub appends-unique : {before new x y : List ℕ} {at n m : ℕ} → at ≤ length before → Appends before at new x n

@@ -4,12 +4,19 @@ ghost use Prim.Native.Nat.{_+_, _-_, _*_, _/_, _^_, _≤_, _<_, min};
 ghost use lib.ListN.{getD};
 ghost use Rattle.grammar.specs.File.{pairAt};
 ghost use Rattle.grammar.specs.Listing.{fileOf, quadAt, ticksFrom, tokensFrom};
-ghost use Rattle.listing.specs.Answer.{InputCounted, Wrote, endOf};
+ghost use Rattle.listing.specs.Answer.{InputCounted, TakenApart, Wrote, endOf};
+use file::Reading;
 use grammar::Refusal;
 
 // Where the blocks end and the entries begin, or refusal 1. `endOf` of specs/Answer.antt says what each stands for.
 pub enum Blocks {
     EndAt(usize),
+    Refused(Refusal),
+}
+
+// How many words, tokens and ticks an input was taken apart into, or the refusal of its count or its file.
+pub enum Taken {
+    Apart(usize, usize, usize),
     Refused(Refusal),
 }
 
@@ -25,8 +32,30 @@ const ENTRY_BYTES: usize = 6;
 
 const TOKEN_BYTES: usize = 2;
 
+// Takes an input apart: the words of its file, its tokens and its ticks, each to the front of a buffer and as many as fit.
+pub fn take_apart(input: &[u8], words: &mut [u16], tokens: &mut [u16], ticks: &mut [u32]) -> Taken
+    ensures { λ r. ⌜ TakenApart (now (input .entry)) (now (words .entry)) (now (tokens .entry)) (now (ticks .entry)) r
+        (now (words .exit)) (now (tokens .exit)) (now (ticks .exit)) ⌝ }
+{
+    let counted = blocks_of(input);
+    match counted {
+        Blocks::Refused(refusal) => Taken::Refused(refusal),
+        Blocks::EndAt(end) => {
+            let reading = file::read(file_of(input), words);
+            match reading {
+                Reading::Refused(refusal) => Taken::Refused(refusal),
+                Reading::Words(count) => {
+                    let n = tokens_from(input, end, tokens);
+                    let t = ticks_from(input, end, ticks);
+                    Taken::Apart(count, n, t)
+                }
+            }
+        }
+    }
+}
+
 // Where the blocks end; or refusal 1, for a bad count, a count cut short, no input or missing blocks.
-pub fn blocks_of(input: &[u8]) -> Blocks
+fn blocks_of(input: &[u8]) -> Blocks
     ensures { λ r. ⌜ InputCounted (now (input .entry)) (endOf r) ⌝ }
 {
     if input.len() < COUNT_BYTES {
@@ -47,7 +76,7 @@ pub fn blocks_of(input: &[u8]) -> Blocks
 }
 
 // The grammar file: the blocks, as far as the input has them.
-pub fn file_of(input: &[u8]) -> &[u8]
+fn file_of(input: &[u8]) -> &[u8]
     ensures { λ r. ⌜ now r ≡ fileOf (now (input .entry)) ⌝ }
 {
     if input.len() < COUNT_BYTES {
@@ -62,7 +91,7 @@ pub fn file_of(input: &[u8]) -> &[u8]
 
 // Writes the tokens from a byte to the input's end into the buffer, as many as fit, and gives their number. An entry that is
 // cut short has a token.
-pub fn tokens_from(input: &[u8], from: usize, tokens: &mut [u16]) -> usize
+fn tokens_from(input: &[u8], from: usize, tokens: &mut [u16]) -> usize
     ensures { λ r. ⌜ Wrote (now (tokens .entry)) (tokensFrom (now (input .entry)) from) (now (tokens .exit)) r ⌝ }
 {
     let count = least(begun_entries(input.len(), from), tokens.len());
@@ -76,7 +105,7 @@ pub fn tokens_from(input: &[u8], from: usize, tokens: &mut [u16]) -> usize
 
 // Writes the ticks from a byte to the input's end into the buffer, as many as fit, and gives their number. An entry that is
 // cut short has no tick.
-pub fn ticks_from(input: &[u8], from: usize, ticks: &mut [u32]) -> usize
+fn ticks_from(input: &[u8], from: usize, ticks: &mut [u32]) -> usize
     ensures { λ r. ⌜ Wrote (now (ticks .entry)) (ticksFrom (now (input .entry)) from) (now (ticks .exit)) r ⌝ }
 {
     let count = least(whole_entries(input.len(), from), ticks.len());

@@ -110,7 +110,7 @@ fn put_kind(out: &mut [u8], at: usize, kind: u16, place: u16) -> usize
 // ---- Bytes written behind those that end at `at`: each of these gives where to go on. A byte past the buffer's end is left out.
 
 // A word and a number.
-fn put_field(out: &mut [u8], at: usize, word: &[u8], n: u64) -> usize
+pub fn put_field(out: &mut [u8], at: usize, word: &[u8], n: u64) -> usize
     requires { ⌜ at ≤ length (now out) ⌝ }
     ensures { λ r. ⌜ Appends (now (out .entry)) at (now (word .entry) ++ decimal n) (now (out .exit)) r ⌝ }
 {
@@ -143,7 +143,7 @@ fn put_decimal(out: &mut [u8], at: usize, n: u64) -> usize
     put_byte(out, next, 48 + (n % 10) as u8)
 }
 
-fn put_byte(out: &mut [u8], at: usize, byte: u8) -> usize
+pub fn put_byte(out: &mut [u8], at: usize, byte: u8) -> usize
     requires { ⌜ at ≤ length (now out) ⌝ }
     ensures { λ r. ⌜ Appends (now (out .entry)) at (byte ∷ []) (now (out .exit)) r ⌝ }
 {

@@ -1,5 +1,6 @@
-// The printing program but for its name: document 01, "The printed listing". It reads standard input to its end, keeps the bytes that
-// decide the listing, and writes the listing. A read that fails is never taken for the end: nothing is printed then.
+// The programs that print but for their names: document 01, "The printed listing", and document 02, request (iv). Each reads standard
+// input to its end, keeps the bytes that decide what it prints, and writes that. A read that fails is never taken for the end: nothing is
+// printed then.
 ghost use Prim.Native.Nat.{_≤_};
 ghost use lib.ListN.{length};
 ghost use Rattle.printing.specs.Input.{InputFits};
@@ -11,14 +12,26 @@ pub enum Input {
     Failed,
 }
 
-// Prints the listing of standard input. Where a read or a write fails, standard error gets a line that says so. The room has the count,
-// 11 blocks and 4,097 entries: `show` asks for as much.
+// The count, 11 blocks and 4,097 entries: `show` asks for as much.
+const ROOM: usize = 30216;
+
+// Prints the listing of standard input. Where a read or a write fails, standard error gets a line that says so.
 pub fn run() {
-    let mut room = [0u8; 30216];
+    let mut room = [0u8; ROOM];
     let input = read_input(&mut room);
     match input {
         Input::Kept(size) => print(&room, size),
         Input::Failed => input::tell(b"odhrashup: standard input could not be read\n"),
+    }
+}
+
+// Prints the marks of standard input, one to a line, in the same way.
+pub fn run_marks() {
+    let mut room = [0u8; ROOM];
+    let input = read_input(&mut room);
+    match input {
+        Input::Kept(size) => print_marks(&room, size),
+        Input::Failed => input::tell(b"print_marks: standard input could not be read\n"),
     }
 }
 
@@ -33,6 +46,19 @@ fn print(room: &[u8], size: usize)
         return;
     }
     input::tell(b"odhrashup: the listing could not be written\n");
+}
+
+// Prints the marks of such an input.
+fn print_marks(room: &[u8], size: usize)
+    requires { ⌜ 30216 ≤ length (now room) ⌝ }
+    requires { ⌜ size ≤ length (now room) ⌝ }
+{
+    let mut out = mark_lines::buffer();
+    let count = mark_lines::show(room, size, &mut out);
+    if io::write_all(1, &out[..count]) {
+        return;
+    }
+    input::tell(b"print_marks: the lines could not be written\n");
 }
 
 // Reads standard input to its end and keeps as much of it as the room holds. A proved loop has to end, and nothing says that the

@@ -58,7 +58,7 @@ returns c =
     let start = answer .before .before .before .before .before .before .before .before in
     shown-refused (told .paced .given .0 .0)
     (kept-refused (start .pre .1) (report-told (answer .report .ensures) (ap pacedOf (told .paced .given .1))))
-    (shows .refused .ensures) (start .pre .0)
+    (shows .refused .ensures) (omega (arith, start .pre .0))
 
 same-length-2 : tie.Need-same-length-2
 same-length-2 c = search needs

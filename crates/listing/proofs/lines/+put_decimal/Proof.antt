@@ -1,7 +1,7 @@
 -- `listing::lines::put_decimal` meets its contract: by `decimal-one` and `decimal-more`. The measure is the number.
 use native.Mathlib.Omega.{arith}
 use mathlib.Core.Path.{sym}
-use Rattle.listing.proofs.Writing.{put-as, put-then}
+use Rattle.listing.specs.Writing.{put-as, put-then}
 use Rattle.listing.proofs.Numbers.{decimal-one, decimal-more}
 use borrow.Author.Needs.{needs}
 use Prim.Native.Nat.{ℕ, _<_}

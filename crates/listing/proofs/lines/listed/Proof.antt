@@ -1,7 +1,7 @@
 -- `listing::lines::listed` meets its contract: the first line, the edit lines and the last, one behind the other.
 use Rattle.listing.specs.Sizes.{listing-length}
 use Rattle.grammar.specs.Listing.{listing}
-use Rattle.listing.proofs.Writing.{put-all, put-then}
+use Rattle.listing.specs.Writing.{put-all, put-then}
 use native.Mathlib.Omega.{arith}
 use borrow.Author.Needs.{needs}
 use Rattle.listing.proofs.lines.listed.Statement.{statement}

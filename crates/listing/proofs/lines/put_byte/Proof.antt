@@ -1,6 +1,6 @@
 -- `listing::lines::put_byte` meets its contract: a byte that fits is written, and one past the end is left out.
 use native.Mathlib.Omega.{arith}
-use Rattle.listing.proofs.Writing.{put-one, put-past}
+use Rattle.listing.specs.Writing.{put-one, put-past}
 use native.Mathlib.Omega.{arith}
 use lib.ListN.{length-set}
 use borrow.Author.Needs.{needs}

@@ -1,6 +1,6 @@
 -- `listing::lines::put_edit` meets its contract: the parts of `editLine`, one behind the other.
 use Rattle.grammar.specs.Listing.{ascii, field, editLine}
-use Rattle.listing.proofs.Writing.{put-then}
+use Rattle.listing.specs.Writing.{put-then}
 use borrow.Author.Needs.{needs}
 use Rattle.listing.proofs.lines.put_edit.Statement.{statement}
 use Rattle.listing.proofs.lines.put_edit.Tie as tie

@@ -1,5 +1,5 @@
 -- `listing::lines::put_field` meets its contract: the word, then the number.
-use Rattle.listing.proofs.Writing.{put-then}
+use Rattle.listing.specs.Writing.{put-then}
 use borrow.Author.Needs.{needs}
 use Rattle.listing.proofs.lines.put_field.Statement.{statement}
 use Rattle.listing.proofs.lines.put_field.Tie as tie

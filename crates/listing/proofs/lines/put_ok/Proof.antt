@@ -1,6 +1,6 @@
 -- `listing::lines::put_ok` meets its contract: the parts of `okLine`, one behind the other.
 use Rattle.grammar.specs.Listing.{ascii, field, okLine}
-use Rattle.listing.proofs.Writing.{put-then}
+use Rattle.listing.specs.Writing.{put-then}
 use borrow.Author.Needs.{needs}
 use Rattle.listing.proofs.lines.put_ok.Statement.{statement}
 use Rattle.listing.proofs.lines.put_ok.Tie as tie

@@ -2,7 +2,7 @@
 use mathlib.Core.Path.{sym, ap}
 use Rattle.grammar.specs.Listing.{ascii, field, paceLine}
 use Rattle.listing.specs.Sizes.{pace-length, pace-idle}
-use Rattle.listing.proofs.Writing.{put-then, put-as}
+use Rattle.listing.specs.Writing.{put-then, put-as}
 use native.Mathlib.Omega.{arith}
 use borrow.Author.Needs.{needs}
 use Rattle.listing.proofs.lines.put_pace.Statement.{statement}

@@ -7,7 +7,7 @@ use native.Mathlib.Omega.{arith}
 use borrow.Author.Needs.{needs}
 use lib.ListN.{length, take}
 use Rattle.listing.specs.Answer.{Appends}
-use Rattle.listing.proofs.Writing.{put-none, put-more, put-text}
+use Rattle.listing.specs.Writing.{put-none, put-more, put-text}
 use Rattle.listing.proofs.lines.put_text.Statement.{statement}
 use Rattle.listing.proofs.lines.put_text.Tie as tie
 

@@ -3,7 +3,7 @@ use Prim.Native.Nat.{ℕ}
 use mathlib.Core.Path.{ap}
 use mathlib.Core.List.{_++_}
 use Rattle.grammar.specs.Listing.{ascii, field, refusedLine, newline}
-use Rattle.listing.proofs.Writing.{put-then, put-as, put-all}
+use Rattle.listing.specs.Writing.{put-then, put-as, put-all}
 use borrow.Author.Needs.{needs}
 use Rattle.listing.proofs.lines.refused.Statement.{statement}
 use Rattle.listing.proofs.lines.refused.Tie as tie
