@@ -1,7 +1,7 @@
-//! What an implementation of document 01, and of requests (i) to (iii) of document 02, answers, besides
+//! What an implementation of document 01, and of requests (i) to (iv) of document 02, answers, besides
 //! the buffers it was lent.
 
-/// A refusal number: 1 to 12 of the table, 13 and 14 of request (i), 23 of request (iii).
+/// A refusal number: 1 to 12 of the table, 13 and 14 of request (i), 23 of request (iii), 15 of request (iv).
 pub type Refusal = u16;
 
 /// Longest log: "over 4,096 tokens" is refusal 10.
@@ -10,6 +10,8 @@ pub const MOST_TOKENS: usize = 4_096;
 pub const LISTING_WORDS: usize = 2_783;
 pub const LISTING_EDITS: usize = 24_576;
 pub const LISTING_RULES: usize = 16_384;
+/// `print_marks` lends as many, and 65,536 words for the tokens of the result.
+pub const LISTING_MARKS: usize = 65_536;
 
 /// The most words that are written: "more than 2,783" is refusal 13.
 pub const MOST_WORDS: usize = 2_783;
@@ -25,6 +27,15 @@ pub struct Parsed {
     pub edits: u64,
     /// Rule numbers written.
     pub rules: u64,
+}
+
+/// The counts of a repaired log in marks alone that was not refused.
+#[derive(Clone, Copy, Debug, PartialEq, Eq)]
+pub struct Marked {
+    /// The counts of the parse that was run for it.
+    pub parsed: Parsed,
+    /// Tokens of the result, kept and added.
+    pub tokens: u64,
 }
 
 /// "idle when the count is 0, else the mean in ms as an f64"
@@ -82,6 +93,16 @@ pub trait Implementation {
         rules: &mut [u16],
     ) -> Result<Parsed, Refusal>;
 
+    /// Runs the parse and writes the repaired log in marks alone into `marks`, refusals 5 to 12 and 15.
+    fn marks(
+        &self,
+        words: &[u16],
+        tokens: &[u16],
+        edits: &mut [u16],
+        rules: &mut [u16],
+        marks: &mut [u16],
+    ) -> Result<Marked, Refusal>;
+
     /// Runs the parse and reports the pace, refusals 5 to 12.
     fn report(
         &self,
@@ -93,8 +114,16 @@ pub trait Implementation {
     ) -> Result<Report, Refusal>;
 }
 
-/// An implementation that also has the printing program.
+/// An implementation that also has the printing programs.
 pub trait Prints: Implementation {
-    /// Standard input to the text that the program prints.
+    /// Standard input to the text that the printing program prints.
     fn listing(&self, input: &[u8]) -> String;
+
+    /// The same standard input to the text that `print_marks` prints.
+    fn mark_lines(&self, input: &[u8]) -> String;
+
+    /// Whether [`Prints::mark_lines`] can be asked.
+    fn has_mark_lines(&self) -> bool {
+        true
+    }
 }

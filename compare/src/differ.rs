@@ -10,7 +10,7 @@ pub struct Outcome {
     /// Numbers in the order of the answer's fields; a mean by its bits, behind a 1; idle a 0.
     pub answer: Result<Vec<u64>, Refusal>,
     pub buffers: Vec<Vec<u16>>,
-    /// The listing, where it was asked for.
+    /// The listing or the lines of marks, where they were asked for.
     pub text: String,
 }
 
@@ -49,6 +49,20 @@ pub fn outcome(implementation: &dyn Prints, input: &Input) -> Outcome {
             let numbers = answer.map(|p| vec![p.moves, p.edits, p.rules]);
             (numbers, vec![edits, rules])
         }
+        Input::Marks {
+            words,
+            tokens,
+            mut edits,
+            mut rules,
+            mut marks,
+        } => {
+            let answer = implementation.marks(&words, &tokens, &mut edits, &mut rules, &mut marks);
+            let numbers = answer.map(|marked| {
+                let parsed = marked.parsed;
+                vec![parsed.moves, parsed.edits, parsed.rules, marked.tokens]
+            });
+            (numbers, vec![edits, rules, marks])
+        }
         Input::Report {
             words,
             tokens,
@@ -69,6 +83,10 @@ pub fn outcome(implementation: &dyn Prints, input: &Input) -> Outcome {
         }
         Input::Listing { input } => {
             text = implementation.listing(&input);
+            (refusal_of(&text), Vec::new())
+        }
+        Input::MarkLines { input } => {
+            text = implementation.mark_lines(&input);
             (refusal_of(&text), Vec::new())
         }
     };
@@ -92,7 +110,7 @@ impl Outcome {
     /// Whether the outcome lists edits.
     pub fn has_edits(&self, input: &Input) -> bool {
         match (input, &self.answer) {
-            (Input::Parse { .. } | Input::Report { .. }, Ok(_)) => {
+            (Input::Parse { .. } | Input::Marks { .. } | Input::Report { .. }, Ok(_)) => {
                 self.buffers[0].first().is_some_and(|&kind| kind != 0)
             }
             // tokens, moves, edits, rules

@@ -1,10 +1,11 @@
 //! The bench examples of document 01 and its further claims, with the records that request (ii) of
 //! document 02 leaves them, in [`empty_parts`] more examples of that request, in [`writing`] those of
-//! request (i), and in [`cheapest`] those of request (iii). The expected results are written by hand from
-//! the documents, never taken from a program.
+//! request (i), in [`cheapest`] those of request (iii), and in [`marks`] those of request (iv). The expected
+//! results are written by hand from the documents, never taken from a program.
 
 pub mod cheapest;
 pub mod empty_parts;
+pub mod marks;
 pub mod writing;
 
 use crate::answer::{Pace, Prints};
@@ -259,6 +260,8 @@ mod tests {
         assert_eq!(writing::failures(&Tuned::default()), Vec::<String>::new());
         assert_eq!(cheapest::failures(&Plain), Vec::<String>::new());
         assert_eq!(cheapest::failures(&Tuned::default()), Vec::<String>::new());
+        assert_eq!(marks::failures(&Plain), Vec::<String>::new());
+        assert_eq!(marks::failures(&Tuned::default()), Vec::<String>::new());
     }
 
     #[test]

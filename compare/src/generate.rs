@@ -1,4 +1,4 @@
-//! Seeded inputs for every part of document 01 and of requests (i) and (iii): grammars, logs, ticks,
+//! Seeded inputs for every part of document 01 and of requests (i), (iii) and (iv): grammars, logs, ticks,
 //! grammar files, standard input, lists of words, texts and lent buffers. Equal seeds give equal inputs.
 
 pub mod buffers;
@@ -11,6 +11,7 @@ pub mod grammar;
 pub mod input;
 pub mod list;
 pub mod log;
+pub mod marks;
 pub mod random;
 pub mod text;
 pub mod ties;

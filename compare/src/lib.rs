@@ -1,4 +1,4 @@
-//! An implementation of document 01, and of requests (i) to (iii) of document 02, that shares nothing
+//! An implementation of document 01, and of requests (i) to (iv) of document 02, that shares nothing
 //! with the proved one, and what is needed to compare implementations with each other.
 //!
 //! * [`answer`]: what every implementation answers, and the trait they share;
@@ -9,7 +9,7 @@
 //! * [`implementations`]: the list of those that are compared and measured;
 //! * [`generate`]: seeded inputs of every kind;
 //! * [`differ`]: runs one input on implementations and tells the first difference;
-//! * [`examples`]: the bench examples of document 01 and those of requests (i) to (iii), expected results
+//! * [`examples`]: the bench examples of document 01 and those of requests (i) to (iv), expected results
 //!   written by hand;
 //! * [`telling`]: inputs shaped by hand, each to tell a wrong reading apart;
 //! * [`steps`]: the stored calls of the test programs;

@@ -1,113 +1,53 @@
 //! The proved implementation, behind its C interface: a driver process that links the static
-//! library answers calls, and the program `test_sweep` prints listings. Two processes and not a link,
-//! since the library is for x86-64 and may have to run under an emulator. `run` builds both and
-//! names their commands in `ODHRASHUP_DRIVER` and `ODHRASHUP_LISTINGS`.
+//! library answers calls, the program `test_sweep` prints listings, and the program `test_mark_lines` the
+//! lines of `print_marks`. Processes and not a link, since the library is for x86-64 and may have to run
+//! under an emulator. `run` builds them and names their commands in `ODHRASHUP_DRIVER`,
+//! `ODHRASHUP_LISTINGS` and `ODHRASHUP_MARK_LINES`.
 
-use crate::answer::{Implementation, Pace, Parsed, Prints, Refusal, Report};
+mod asked;
+
+use crate::answer::{Implementation, Marked, Pace, Parsed, Prints, Refusal, Report};
+use asked::{Asked, COUNTS};
 use std::cell::RefCell;
-use std::io::{BufRead, BufReader, BufWriter, Read, Write};
-use std::process::{Child, ChildStdin, ChildStdout, Command, Stdio};
 
 /// The status of an idle station.
 pub(crate) const IDLE: u32 = 1_000;
-
-/// A process that is asked on its standard input and answers on its standard output.
-struct Asked {
-    _child: Child,
-    to: BufWriter<ChildStdin>,
-    from: BufReader<ChildStdout>,
-}
-
-impl Asked {
-    /// The process of the command that a variable of the environment holds, if it does.
-    fn named(variable: &str) -> Option<Asked> {
-        let command = std::env::var(variable).ok()?;
-        let mut words = command.split_whitespace();
-        let mut child = Command::new(words.next()?)
-            .args(words)
-            .stdin(Stdio::piped())
-            .stdout(Stdio::piped())
-            .spawn()
-            .expect("the command starts");
-        let to = BufWriter::new(child.stdin.take().expect("a pipe"));
-        let from = BufReader::new(child.stdout.take().expect("a pipe"));
-        Some(Asked {
-            _child: child,
-            to,
-            from,
-        })
-    }
-
-    fn put(&mut self, bytes: &[u8]) {
-        self.to.write_all(bytes).expect("the process listens");
-    }
-
-    fn put_u32(&mut self, number: usize) {
-        self.put(&(number as u32).to_le_bytes());
-    }
-
-    fn put_u16s(&mut self, words: &[u16]) {
-        let bytes: Vec<u8> = words.iter().flat_map(|word| word.to_le_bytes()).collect();
-        self.put(&bytes);
-    }
-
-    fn ask(&mut self) {
-        self.to.flush().expect("the process listens");
-    }
-
-    fn get<const N: usize>(&mut self) -> [u8; N] {
-        let mut bytes = [0; N];
-        self.get_bytes(&mut bytes);
-        bytes
-    }
-
-    fn get_bytes(&mut self, bytes: &mut [u8]) {
-        self.from.read_exact(bytes).expect("the process answers");
-    }
-
-    fn get_u16s(&mut self, words: &mut [u16]) {
-        let mut bytes = vec![0; 2 * words.len()];
-        self.get_bytes(&mut bytes);
-        for (word, pair) in words.iter_mut().zip(bytes.chunks(2)) {
-            *word = u16::from_le_bytes([pair[0], pair[1]]);
-        }
-    }
-
-    /// The status, three counts and the mean, with which every answer begins.
-    fn head(&mut self) -> (u32, [u64; 3], f64) {
-        let status = u32::from_le_bytes(self.get());
-        let counts = [(); 3].map(|()| u64::from_le_bytes(self.get()));
-        (status, counts, f64::from_le_bytes(self.get()))
-    }
-}
 
 /// The proved implementation.
 pub struct Library {
     driver: RefCell<Asked>,
     listings: RefCell<Asked>,
+    /// Nothing where the environment names no such process.
+    mark_lines: Option<RefCell<Asked>>,
 }
 
 impl Library {
-    /// It, where the environment names both commands.
+    /// It, where the environment names the driver and the listings.
     pub fn from_environment() -> Option<Library> {
         Some(Library {
             driver: RefCell::new(Asked::named("ODHRASHUP_DRIVER")?),
             listings: RefCell::new(Asked::named("ODHRASHUP_LISTINGS")?),
+            mark_lines: Asked::named("ODHRASHUP_MARK_LINES").map(RefCell::new),
         })
     }
 }
 
-/// Whether a status is the number of a refusal: those of 01 and of requests (i) and (iii).
+/// Whether a status is the number of a refusal: those of 01 and of requests (i), (iii) and (iv).
 pub(crate) fn is_refusal(status: u32) -> bool {
-    matches!(status, 1..=14 | 23)
+    matches!(status, 1..=15 | 23)
 }
 
 /// A refusal carries no counts and no mean; without one the counts behind those given are zero.
-fn outcome(status: u32, counts: [u64; 3], mean: f64, used: usize) -> Result<[u64; 3], Refusal> {
+fn outcome(
+    status: u32,
+    counts: [u64; COUNTS],
+    mean: f64,
+    used: usize,
+) -> Result<[u64; COUNTS], Refusal> {
     if is_refusal(status) {
         assert_eq!(
             (counts, mean.to_bits()),
-            ([0; 3], 0),
+            ([0; COUNTS], 0),
             "a refusal leaves zeros"
         );
         return Err(status as Refusal);
@@ -195,10 +135,42 @@ impl Implementation for Library {
         let (status, counts, mean) = driver.head();
         driver.get_u16s(edits);
         driver.get_u16s(rules);
-        outcome(status, counts, mean, 3).map(|[moves, edits, rules]| Parsed {
+        outcome(status, counts, mean, 3).map(|[moves, edits, rules, _]| Parsed {
             moves,
             edits,
             rules,
+        })
+    }
+
+    fn marks(
+        &self,
+        words: &[u16],
+        tokens: &[u16],
+        edits: &mut [u16],
+        rules: &mut [u16],
+        marks: &mut [u16],
+    ) -> Result<Marked, Refusal> {
+        let mut driver = self.driver.borrow_mut();
+        driver.put_u32(6);
+        let lists = [words, tokens, edits, rules, marks];
+        for list in lists {
+            driver.put_u32(list.len());
+        }
+        for list in lists {
+            driver.put_u16s(list);
+        }
+        driver.ask();
+        let (status, counts, mean) = driver.head();
+        for list in [edits, rules, marks] {
+            driver.get_u16s(list);
+        }
+        outcome(status, counts, mean, 4).map(|[moves, edits, rules, tokens]| Marked {
+            parsed: Parsed {
+                moves,
+                edits,
+                rules,
+            },
+            tokens,
         })
     }
 
@@ -231,7 +203,7 @@ impl Implementation for Library {
         let (status, counts, mean) = driver.head();
         driver.get_u16s(edits);
         driver.get_u16s(rules);
-        let [cycles, ms, _] = outcome(status, counts, mean, 2)?;
+        let [cycles, ms, ..] = outcome(status, counts, mean, 2)?;
         let pace = if status == IDLE {
             assert!(mean.is_nan(), "an idle station has no mean");
             Pace::Idle
@@ -248,17 +220,19 @@ impl Prints for Library {
         listings.put_u32(input.len());
         listings.put(input);
         listings.ask();
-        let mut text = String::new();
-        loop {
-            let mut line = String::new();
-            listings
-                .from
-                .read_line(&mut line)
-                .expect("the process answers");
-            text.push_str(&line);
-            if line.is_empty() || line.starts_with("pace ") || line.starts_with("refused ") {
-                return text;
-            }
-        }
+        listings.lines(|line| line.starts_with("pace ") || line.starts_with("refused "))
+    }
+
+    fn mark_lines(&self, input: &[u8]) -> String {
+        let process = self.mark_lines.as_ref().expect("asked where it is there");
+        let mut process = process.borrow_mut();
+        process.put_u32(input.len());
+        process.put(input);
+        process.ask();
+        process.lines(|line| line.starts_with("marks ") || line.starts_with("refused "))
+    }
+
+    fn has_mark_lines(&self) -> bool {
+        self.mark_lines.is_some()
     }
 }

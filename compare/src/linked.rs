@@ -1,7 +1,7 @@
 //! The proved implementation, linked: the static library's functions as the benchmark calls them.
 //! `bench` builds with the feature `linked` and says where the library is.
 
-use crate::answer::{Implementation, Pace, Parsed, Refusal, Report};
+use crate::answer::{Implementation, Marked, Pace, Parsed, Refusal, Report};
 use crate::library::{is_refusal, IDLE};
 
 extern "C" {
@@ -41,6 +41,20 @@ extern "C" {
         edits_len: usize,
         rules: *mut u16,
         rules_len: usize,
+        counts: *mut u64,
+        counts_len: usize,
+    ) -> u32;
+    fn odhrashup_marks(
+        words: *const u16,
+        words_len: usize,
+        log: *const u16,
+        log_len: usize,
+        edits: *mut u16,
+        edits_len: usize,
+        rules: *mut u16,
+        rules_len: usize,
+        tokens: *mut u16,
+        tokens_len: usize,
         counts: *mut u64,
         counts_len: usize,
     ) -> u32;
@@ -162,6 +176,40 @@ impl Implementation for Linked {
                 rules,
             },
         )
+    }
+
+    fn marks(
+        &self,
+        words: &[u16],
+        tokens: &[u16],
+        edits: &mut [u16],
+        rules: &mut [u16],
+        marks: &mut [u16],
+    ) -> Result<Marked, Refusal> {
+        let mut counts = [0; 4];
+        let status = unsafe {
+            odhrashup_marks(
+                words.as_ptr(),
+                words.len(),
+                tokens.as_ptr(),
+                tokens.len(),
+                edits.as_mut_ptr(),
+                edits.len(),
+                rules.as_mut_ptr(),
+                rules.len(),
+                marks.as_mut_ptr(),
+                marks.len(),
+                counts.as_mut_ptr(),
+                counts.len(),
+            )
+        };
+        let [moves, edits, rules, tokens] = counts;
+        let parsed = Parsed {
+            moves,
+            edits,
+            rules,
+        };
+        outcome(status, Marked { parsed, tokens })
     }
 
     fn report(

@@ -1,4 +1,4 @@
-//! The plain implementation of document 01 and of requests (i) to (iii) of document 02. It is meant to be
+//! The plain implementation of document 01 and of requests (i) to (iv) of document 02. It is meant to be
 //! read beside the documents: sets are textbook fixpoints, the stack is inspected literally, and comments
 //! in quotes are the documents' own words. Nothing here is made for speed.
 
@@ -6,6 +6,8 @@ mod check;
 mod desk;
 mod grammar;
 mod listing;
+mod mark_lines;
+mod marks;
 mod pace;
 mod parse;
 mod reader;
@@ -17,6 +19,8 @@ pub use check::check;
 pub use desk::costs;
 pub use grammar::{Grammar, Rule, END, START};
 pub use listing::listing;
+pub use mark_lines::mark_lines;
+pub use marks::{marks, needed_marks};
 pub use pace::report;
 pub use parse::{needed, parse};
 pub use reader::read;
@@ -24,7 +28,7 @@ pub use sets::{Sets, TerminalSet};
 pub use text::{words_of_text, write_grammar};
 pub use writer::write;
 
-use crate::answer::{Implementation, Parsed, Prints, Refusal, Report};
+use crate::answer::{Implementation, Marked, Parsed, Prints, Refusal, Report};
 
 /// The plain implementation as a column of the comparison.
 pub struct Plain;
@@ -60,6 +64,17 @@ impl Implementation for Plain {
         parse(words, tokens, edits, rules)
     }
 
+    fn marks(
+        &self,
+        words: &[u16],
+        tokens: &[u16],
+        edits: &mut [u16],
+        rules: &mut [u16],
+        marks: &mut [u16],
+    ) -> Result<Marked, Refusal> {
+        marks::marks(words, tokens, edits, rules, marks)
+    }
+
     fn report(
         &self,
         words: &[u16],
@@ -75,5 +90,9 @@ impl Implementation for Plain {
 impl Prints for Plain {
     fn listing(&self, input: &[u8]) -> String {
         listing(input)
+    }
+
+    fn mark_lines(&self, input: &[u8]) -> String {
+        mark_lines(input)
     }
 }

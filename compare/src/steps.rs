@@ -1,6 +1,6 @@
 //! The stored calls of the test programs `test_parse` and `test_pace`: steps that set words, tokens
 //! and ticks and then call, and for each call the line that the plain implementation answers. Those of
-//! the writer stand in [`writing`], those of the desk in [`desk`].
+//! the writer stand in [`writing`], those of the desk in [`desk`], those of request (iv) in [`marks`].
 //!
 //! Both files are made of numbers of two bytes, little endian. `test_parse` has five to a step:
 //! 0 PLACE WORD 0 0 sets a word of the grammar, 1 PLACE TOKEN 0 0 a token of the log, and
@@ -9,6 +9,7 @@
 //! at that place, and 2 WORDS TOKENS TICKS E R, which asks for the report.
 
 pub mod desk;
+pub mod marks;
 pub mod writing;
 
 use crate::answer::{Pace, Parsed, Refusal, Report};

@@ -2,9 +2,13 @@
 //! answers something else than their `stdout` says. On the implementation as it is that is nowhere;
 //! `altered` asks for the same of implementations with one wrong line.
 
+mod answers;
+
 use crate::steps::desk::{self, costs_line};
+use crate::steps::marks::marks_line;
 use crate::steps::writing::{text_line, write_lines};
 use crate::{plain, steps};
+use answers::{Answer, Lines};
 use std::path::Path;
 use std::{fs, io};
 
@@ -28,6 +32,9 @@ pub fn all(crates: &Path) -> io::Result<Vec<Stored>> {
         compare(crates, "write_grammar", |text| vec![file_of(text)])?,
         compare(crates, "test_unmade", |text| vec![unmade(text)])?,
         compare(crates, "test_desk", desks)?,
+        compare(crates, "test_marks", marks)?,
+        compare(crates, "test_mark_lines", mark_lines)?,
+        compare(crates, "print_marks", |input| vec![Lines::of(input)])?,
     ])
 }
 
@@ -48,37 +55,6 @@ fn compare<A: Answer>(
         inputs: answers.len(),
         different: different.count(),
     })
-}
-
-/// The answer to one call or input: lines, or the bytes of a file.
-trait Answer: PartialEq + Sized {
-    /// Cuts an output into the answers it is made of.
-    fn parts(output: &[u8]) -> Vec<Self>;
-}
-
-impl Answer for String {
-    /// A listing, the lines of a written file, or a single line.
-    fn parts(output: &[u8]) -> Vec<String> {
-        let output = std::str::from_utf8(output).expect("lines");
-        let mut parts: Vec<String> = Vec::new();
-        for line in output.split_inclusive('\n') {
-            let goes_on = ["delete ", "insert ", "pace ", "block "]
-                .iter()
-                .any(|word| line.starts_with(word));
-            match parts.last_mut() {
-                Some(part) if goes_on => part.push_str(line),
-                _ => parts.push(line.to_string()),
-            }
-        }
-        parts
-    }
-}
-
-impl Answer for Vec<u8> {
-    /// All of it: the program makes one file.
-    fn parts(output: &[u8]) -> Vec<Vec<u8>> {
-        vec![output.to_vec()]
-    }
 }
 
 /// The steps of an input, N numbers of two bytes each.
@@ -206,6 +182,30 @@ fn desks(stdin: &[u8]) -> Vec<String> {
         }
     }
     answers
+}
+
+/// The answers of `test_marks`.
+fn marks(stdin: &[u8]) -> Vec<String> {
+    let mut words = vec![0; steps::MOST_WORDS];
+    let mut tokens = vec![0; steps::MOST_TOKENS];
+    let mut answers = Vec::new();
+    for [kind, first, second, edits, rules, marks] in steps_of(stdin) {
+        let (place, n) = (usize::from(first), usize::from(second));
+        match kind {
+            0 => words[place] = second,
+            1 => tokens[place] = second,
+            _ => {
+                let rooms = [edits, rules, marks].map(usize::from);
+                answers.push(marks_line(&words[..place], &tokens[..n], rooms));
+            }
+        }
+    }
+    answers
+}
+
+/// The lines of `test_mark_lines`.
+fn mark_lines(stdin: &[u8]) -> Vec<Lines> {
+    inputs_of(stdin).into_iter().map(Lines::of).collect()
 }
 
 /// The listings of `test_sweep`.

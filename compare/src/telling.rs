@@ -7,6 +7,7 @@ pub mod desks;
 mod empties;
 mod grammars;
 pub mod lists;
+pub mod marks;
 pub mod texts;
 
 use crate::generate::families::bench_g;

@@ -7,6 +7,8 @@
 mod desk;
 mod entries;
 mod listing;
+mod mark_lines;
+mod marks;
 mod pace;
 mod parse;
 mod reader;
@@ -18,13 +20,15 @@ mod writer;
 
 pub use desk::costs;
 pub use listing::listing;
+pub use mark_lines::mark_lines;
+pub use marks::marks;
 pub use pace::report;
 pub use parse::parse;
 pub use reader::read;
 pub use tables::Tables;
 pub use writer::write;
 
-use crate::answer::{Implementation, Parsed, Prints, Refusal, Report};
+use crate::answer::{Implementation, Marked, Parsed, Prints, Refusal, Report};
 use std::cell::RefCell;
 
 /// The tuned implementation as a column of the comparison, with the tables it keeps.
@@ -64,6 +68,18 @@ impl Implementation for Tuned {
         parse(&mut self.tables.borrow_mut(), words, tokens, edits, rules)
     }
 
+    fn marks(
+        &self,
+        words: &[u16],
+        tokens: &[u16],
+        edits: &mut [u16],
+        rules: &mut [u16],
+        marks: &mut [u16],
+    ) -> Result<Marked, Refusal> {
+        let tables = &mut self.tables.borrow_mut();
+        marks::marks(tables, words, tokens, edits, rules, marks)
+    }
+
     fn report(
         &self,
         words: &[u16],
@@ -86,5 +102,9 @@ impl Implementation for Tuned {
 impl Prints for Tuned {
     fn listing(&self, input: &[u8]) -> String {
         listing(&mut self.tables.borrow_mut(), input)
+    }
+
+    fn mark_lines(&self, input: &[u8]) -> String {
+        mark_lines(&mut self.tables.borrow_mut(), input)
     }
 }

@@ -47,6 +47,17 @@ fn plain_and_tuned_agree_on_the_telling_inputs() {
         assert_eq!(plain, tuned.costs(&words, &mut two.0, &mut two.1));
         assert_eq!(one, two);
     }
+    for (words, tokens, rooms) in telling::marks::calls() {
+        let lent = || rooms.map(|room| vec![9; room]);
+        let ([mut a, mut b, mut c], [mut d, mut e, mut f]) = (lent(), lent());
+        let plain = Plain.marks(&words, &tokens, &mut a, &mut b, &mut c);
+        let found = tuned.marks(&words, &tokens, &mut d, &mut e, &mut f);
+        assert_eq!(plain, found);
+        assert_eq!((a, b, c), (d, e, f));
+    }
+    for input in telling::marks::inputs() {
+        assert_eq!(Plain.mark_lines(&input), tuned.mark_lines(&input));
+    }
     let lists = telling::lists::writes().into_iter();
     for (words, room) in lists.chain(telling::lists::telling_sums()) {
         let (mut one, mut two) = (vec![9; room], vec![9; room]);

@@ -3,10 +3,11 @@
 //! Every figure is a median over repeated runs; where a row covers several logs, it shows the
 //! median over the logs and in brackets the least and the largest. Ratios are taken log by
 //! log. Before a log is measured, all implementations are held against each other on it:
-//! answers and every word of both buffers.
+//! answers and every word of every buffer.
 
 use compare::answer::{
-    Implementation, LISTING_EDITS, LISTING_RULES, LISTING_WORDS, LONGEST_FILE, MOST_WORDS,
+    Implementation, LISTING_EDITS, LISTING_MARKS, LISTING_RULES, LISTING_WORDS, LONGEST_FILE,
+    MOST_WORDS,
 };
 use compare::generate::log::{self, Sampler};
 use compare::generate::{families, file, grammar, Draft, Random};
@@ -40,6 +41,7 @@ fn main() {
     );
     println!(
         "lent: {LISTING_WORDS} words, {LISTING_EDITS} edit words, {LISTING_RULES} rule words, \
+         for marks {LISTING_MARKS} words more, \
          and to the desk {MOST_NONTERMINALS} words twice, with the content of the run before; \
          clearing behind the last word written is part of every figure"
     );
@@ -51,6 +53,8 @@ fn main() {
     bench.logs(&mut random, "large", &large);
     bench.growth(&mut random, "G", &g);
     bench.depth();
+    // Draws of its own too.
+    bench.marks(&mut Random::new(seed.rotate_left(32)));
 }
 
 /// A log with its ticks.
@@ -164,6 +168,51 @@ impl Bench {
         }
     }
 
+    /// The marks of correct and of faulty logs of G beside the parse, and of short logs with long results.
+    fn marks(&self, random: &mut Random) {
+        let g = families::bench_g();
+        self.head(&format!(
+            "grammar G: marks of {LOGS} logs of 4,096 tokens, ns a token of the log"
+        ));
+        for (kind, logs) in kinds_of_logs(random, &g, 4_096) {
+            if kind != "noise" {
+                self.parse_row(&format!("parse {kind}"), &g, &logs);
+                self.marks_row(&format!("marks {kind}"), &g, &logs, 4_096);
+            }
+        }
+        let long = long_part();
+        self.head("10,000 tokens between 2 and 3: marks, ns a token of the result");
+        for times in [1, 2, 4, 6] {
+            let tokens: Vec<u16> = [2, 3].repeat(times);
+            let logs = [(tokens, Vec::new())];
+            let size = 10_002 * times;
+            self.marks_row(&format!("marks {size} tokens"), &long, &logs, size);
+        }
+    }
+
+    fn marks_row(&self, name: &str, draft: &Draft, logs: &[Log], parts: usize) {
+        let words = draft.words();
+        let (mut edits, mut rules) = lent();
+        let mut marks = vec![0xAAAA; LISTING_MARKS];
+        for (tokens, _) in logs {
+            self.agree(|column, (edits, rules)| {
+                let mut marks = vec![0xAAAA; LISTING_MARKS];
+                let answer = column.marks(&words, tokens, edits, rules, &mut marks);
+                format!("{answer:?} {marks:?}")
+            });
+        }
+        self.row(name, logs, (ONCE, parts as f64), |column, (tokens, _)| {
+            let answer = column.marks(
+                black_box(&words),
+                tokens,
+                &mut edits,
+                &mut rules,
+                &mut marks,
+            );
+            black_box(answer).expect("a log that is not refused");
+        });
+    }
+
     fn parse_row(&self, name: &str, draft: &Draft, logs: &[Log]) {
         let words = draft.words();
         let (mut edits, mut rules) = lent();
@@ -265,6 +314,23 @@ impl Bench {
         }
         println!();
     }
+}
+
+/// Between 2 and 3 stands 65, which is 10,000 tokens of 1, any number of times.
+fn long_part() -> Draft {
+    let rules: [(u16, &[u16]); 8] = [
+        (0, &[2, 65, 3, 64]),
+        (0, &[]),
+        (1, &[66; 8]),
+        (2, &[67; 5]),
+        (3, &[68; 5]),
+        (4, &[69; 5]),
+        (5, &[70; 5]),
+        (6, &[1; 2]),
+    ];
+    let mut draft = Draft::new(4, 7, &rules);
+    draft.terminals[3].1 = 60_000;
+    draft
 }
 
 /// Correct logs, logs with 5 % of the places damaged, and noise.

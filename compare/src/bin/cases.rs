@@ -1,7 +1,7 @@
 //! Runs the twelve bench examples of document 01, its further claims and the examples of requests (i) to
-//! (iii) on every implementation, against results written by hand. Exits with 1 where one differs.
+//! (iv) on every implementation, against results written by hand. Exits with 1 where one differs.
 
-use compare::examples::{self, cheapest, writing};
+use compare::examples::{self, cheapest, marks, writing};
 use compare::implementations;
 use std::process::ExitCode;
 
@@ -11,10 +11,15 @@ fn main() -> ExitCode {
         let mut failures = examples::failures(implementation.as_ref());
         failures.extend(writing::failures(implementation.as_ref()));
         failures.extend(cheapest::failures(implementation.as_ref()));
+        failures.extend(marks::failures(implementation.as_ref()));
         for failure in &failures {
             println!("{}: {failure}", implementation.name());
         }
-        let count = examples::all().len() + writing::all().len() + cheapest::all().len();
+        let mut count = examples::all().len() + writing::all().len() + cheapest::all().len();
+        count += marks::all().len();
+        if implementation.has_mark_lines() {
+            count += marks::printed().len();
+        }
         let name = implementation.name();
         println!("{name}: {count} examples, {} differences", failures.len());
         good &= failures.is_empty();

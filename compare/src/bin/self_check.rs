@@ -72,6 +72,7 @@ impl Tally {
             Input::Listing { .. } => 4,
             Input::Write { .. } => unreachable!("write_check has the lists"),
             Input::Costs { .. } => unreachable!("desk_check has the desk"),
+            Input::Marks { .. } | Input::MarkLines { .. } => unreachable!("marks_check has them"),
         };
         self.kinds[kind] += 1;
         match outcome.answer {

@@ -31,6 +31,13 @@ pub enum Input {
         edits: Vec<u16>,
         rules: Vec<u16>,
     },
+    Marks {
+        words: Vec<u16>,
+        tokens: Vec<u16>,
+        edits: Vec<u16>,
+        rules: Vec<u16>,
+        marks: Vec<u16>,
+    },
     Report {
         words: Vec<u16>,
         tokens: Vec<u16>,
@@ -39,6 +46,9 @@ pub enum Input {
         rules: Vec<u16>,
     },
     Listing {
+        input: Vec<u8>,
+    },
+    MarkLines {
         input: Vec<u8>,
     },
 }
@@ -72,9 +82,9 @@ impl Source {
         &self.stock
     }
 
-    /// Input number `index`; it does not depend on the inputs before it. Lists to be written and grammars
-    /// for the desk are no such inputs: [`Source::write`] and [`Source::desk`] have them, so that the
-    /// others stay what they are.
+    /// Input number `index`; it does not depend on the inputs before it. Lists to be written, grammars for
+    /// the desk and logs in marks alone are no such inputs: [`Source::write`], [`Source::desk`] and
+    /// [`Source::marks`] have them, so that the others stay what they are.
     pub fn input(&self, index: u64) -> Input {
         let mut random = Random::at(self.seed, index);
         let random = &mut random;
@@ -153,7 +163,7 @@ impl Source {
     }
 
     /// Grammar words, mostly accepted ones, and a log for them.
-    fn words_and_log(&self, random: &mut Random) -> (Vec<u16>, Vec<u16>) {
+    pub(super) fn words_and_log(&self, random: &mut Random) -> (Vec<u16>, Vec<u16>) {
         if random.chance(1, 12) {
             let words = self.words(random);
             let t = words.first().map_or(2, |&t| t.clamp(2, 64));
@@ -171,7 +181,7 @@ impl Source {
     }
 
     /// A log of any kind for a grammar.
-    fn log(&self, random: &mut Random, draft: &Draft, accepted: bool) -> Vec<u16> {
+    pub(super) fn log(&self, random: &mut Random, draft: &Draft, accepted: bool) -> Vec<u16> {
         let t = draft.t();
         let target = match random.below(200) {
             0 => 4_096,
@@ -248,7 +258,7 @@ impl Source {
 
     /// Standard input of the printing program, whole or damaged.
     fn listing(&self, random: &mut Random) -> Vec<u8> {
-        let (mut words, tokens) = if random.chance(1, 30) {
+        let (words, tokens) = if random.chance(1, 30) {
             // Rules or edits that outrun what the program lends.
             let draft = families::chain(random);
             let t = draft.t();
@@ -256,6 +266,16 @@ impl Source {
         } else {
             self.words_and_log(random)
         };
+        self.as_input(random, words, tokens)
+    }
+
+    /// Words and a log as standard input, with ticks; perhaps damaged.
+    pub(super) fn as_input(
+        &self,
+        random: &mut Random,
+        mut words: Vec<u16>,
+        tokens: Vec<u16>,
+    ) -> Vec<u8> {
         if words.is_empty() || words.len() > 2_783 {
             words = vec![1, 1, 1, 0, 0, 0, 0, 0, 0, 0];
         }

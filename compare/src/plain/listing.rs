@@ -24,7 +24,8 @@ struct Answer {
     report: Report,
 }
 
-fn answer(input: &[u8]) -> Result<Answer, Refusal> {
+/// The grammar words, tokens and ticks of a standard input: refusals 1 to 9, and 10 for an entry cut short.
+pub fn parts_of(input: &[u8]) -> Result<(Vec<u16>, Vec<u16>, Vec<u32>), Refusal> {
     // "a u16 block count (1..11), that many blocks, then entries of six bytes ... to the
     // end"; "A bad count, a count cut short, no input or missing blocks prints refusal 1".
     if input.len() < 2 {
@@ -39,10 +40,10 @@ fn answer(input: &[u8]) -> Result<Answer, Refusal> {
 
     let mut words = vec![0; LISTING_WORDS];
     let number = read(file, &mut words)?;
-    let words = &words[..number];
+    words.truncate(number);
 
     // "a last entry cut short counts under refusal 10": behind 5 to 9, before 11 and 12.
-    check(words)?;
+    check(&words)?;
     if entries.len() % 6 != 0 {
         return Err(10);
     }
@@ -55,11 +56,15 @@ fn answer(input: &[u8]) -> Result<Answer, Refusal> {
         .chunks(6)
         .map(|entry| u32::from_le_bytes([entry[2], entry[3], entry[4], entry[5]]))
         .collect();
+    Ok((words, tokens, ticks))
+}
 
+fn answer(input: &[u8]) -> Result<Answer, Refusal> {
+    let (words, tokens, ticks) = parts_of(input)?;
     let mut edits = vec![0; LISTING_EDITS];
     let mut rules = vec![0; LISTING_RULES];
-    let parsed = parse(words, &tokens, &mut edits, &mut rules)?;
-    let report = report(words, &tokens, &ticks, &mut edits, &mut rules)?;
+    let parsed = parse(&words, &tokens, &mut edits, &mut rules)?;
+    let report = report(&words, &tokens, &ticks, &mut edits, &mut rules)?;
     Ok(Answer {
         tokens: tokens.len(),
         parsed,
@@ -102,6 +107,6 @@ fn print(answer: &Answer) -> String {
     text
 }
 
-fn line(text: &mut String, content: std::fmt::Arguments) {
+pub fn line(text: &mut String, content: std::fmt::Arguments) {
     writeln!(text, "{content}").expect("writing to a string");
 }

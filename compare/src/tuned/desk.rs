@@ -34,7 +34,7 @@ pub fn costs(
 impl Tables {
     /// The lowest rule that reaches each cost, in a pass from the last rule to the first: a lower one
     /// takes the place of a higher. Each nonterminal has a rule that does, so every word is written.
-    fn cheapest(&self, rules: &mut [u16]) {
+    pub(super) fn cheapest(&self, rules: &mut [u16]) {
         for (number, rule) in self.rules[..self.count].iter().enumerate().rev() {
             let mut cost = rule.cost;
             let mut named = rule.named;

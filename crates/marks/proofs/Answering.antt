@@ -4,15 +4,14 @@ use mathlib.Core.Path.{_≡_, refl, sym, ap, ap₂, subst, subst₂, _∙_}
 use mathlib.Core.List.{List, [], _∷_, _++_, map, List·Memᴰ, List·Memᴰ·head, List·Memᴰ·tail}
 use mathlib.Core.Option.{none}
 use native.Mathlib.Omega.{arith}
-use lib.ListN.{length, getD, take, drop, replicate, length-append, length-map, length-replicate}
+use lib.ListN.{length, getD, take, drop, replicate, length-append, length-map}
 use lib.Seq.{take-at}
 use Rattle.base.specs.Written.{written, written-length}
-use Rattle.grammar.specs.Words.{END, nonterminalCount}
+use Rattle.grammar.specs.Words.{END}
 use Rattle.grammar.specs.Buffers.{filled, cleared}
-use Rattle.grammar.specs.Grammar.{grammarOf}
-use Rattle.grammar.specs.Moves.{Move, Edit, edits, editWords, ruleNumbers}
+use Rattle.grammar.specs.Moves.{Move, edits, editWords}
 use Rattle.grammar.specs.Marks.{Mark, tokenOf, MarksOf, Marks, MarksAnswer}
-use Rattle.grammar.specs.Run.{RunOf, Parses, ParsedAsking, countsOf, left}
+use Rattle.grammar.specs.Run.{RunOf, Parses, ParsedAsking, countsOf}
 use Rattle.grammar.specs.Refusals.{Outcome, given, refused}
 use Rattle.grammar.specs.declared.Refusal.{Refusal}
 use Rattle.grammar.specs.declared.Refusal.the-variants.{ShortTokens}
@@ -22,7 +21,6 @@ use Rattle.grammar.specs.theory.Folds.{edit-words-length}
 use Rattle.grammar.specs.theory.Marking.{run-of, known-repaired, marks-exist, marks-kept}
 use Rattle.grammar.specs.theory.Places.{walk-run}
 use Rattle.grammar.specs.theory.Refused.{answered-given, answered-refused, parses-words}
-use Rattle.grammar.specs.theory.Tables.{Cheap}
 use Rattle.parser.specs.Parses.{CheapWhere, cheap-where}
 use Rattle.parser.specs.Runs.{parsingOf}
 use Rattle.parser.specs.declared.Parsing.{Parsing}
@@ -37,7 +35,8 @@ use Rattle.marks.specs.declared.Put.the-variants.{Whole, Short}
 -- ---- Buffers
 
 -- A buffer cleared from its first word on.
-pub cleared-all : (before : List ℕ) {after : List ℕ} {room : ℕ} → length before ≡ room → after ≡ take 0 before ++ replicate (length before - 0) 0
+pub cleared-all : (before : List ℕ) {after : List ℕ} {room : ℕ} → length before ≡ room
+    → after ≡ take 0 before ++ replicate (length before - 0) 0
     → after ≡ cleared room
 unfolding cleared
 cleared-all before {after} {room} e f =
@@ -45,7 +44,8 @@ cleared-all before {after} {room} e f =
     f ∙ ap (λ (n : ℕ). replicate n 0) all
 
 -- A buffer cleared behind a list in front of it.
-filled-front : (old new : List ℕ) {before after : List ℕ} {size : ℕ} → before ≡ written old 0 new → length new ≤ length old → size ≡ length new
+filled-front : (old new : List ℕ) {before after : List ℕ} {size : ℕ} → before ≡ written old 0 new → length new ≤ length old
+    → size ≡ length new
     → after ≡ take size before ++ replicate (length before - size) 0 → after ≡ filled (length old) new
 unfolding filled written
 filled-front old new {before} {after} {size} e l s f =
@@ -84,7 +84,8 @@ module _ {Asked : Type 0} {ws log : List ℕ} {editRoom ruleRoom : ℕ} {es rs :
       }
 
   -- A refusal of the parse is the answer.
-  pub marks-unparsed : {wordOf : Mark → ℕ} {r : Refusal} (before : List ℕ) {after : List ℕ} {room : ℕ} → a ≡ parsing.Refused r → length before ≡ room
+  pub marks-unparsed : {wordOf : Mark → ℕ} {r : Refusal} (before : List ℕ) {after : List ℕ} {room : ℕ} → a ≡ parsing.Refused r
+      → length before ≡ room
       → after ≡ take 0 before ++ replicate (length before - 0) 0
       → Marks wordOf Asked ws log editRoom ruleRoom room (markingOf (Refused r)) es rs after
   unfolding parsingOf

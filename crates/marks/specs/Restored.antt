@@ -1,14 +1,13 @@
 -- The walk over the records of a run makes the marks of its moves, each as its word.
-use Prim.Native.Nat.{ℕ, zero, suc, _+_, _-_, _*_, _≤_, _<_}
+use Prim.Native.Nat.{ℕ, zero, suc, _+_, _-_, _≤_, _<_}
 use mathlib.Core.Path.{_≡_, refl, sym, ap, ap₂, subst, _∙_}
 use mathlib.Core.List.{List, [], _∷_, _++_, map, cons≢nil}
 use native.Mathlib.Omega.{arith}
-use lib.ListN.{length, getD, take, drop, length-append}
-use lib.Seq.{drop-cons, drop-length}
-use Rattle.grammar.specs.Words.{END, RuleSymbol, nonterminalCount, terminalCount, insertCost}
+use lib.ListN.{length, getD, take, drop}
+use lib.Seq.{drop-cons}
+use Rattle.grammar.specs.Words.{END, RuleSymbol, nonterminalCount, insertCost}
 use Rattle.grammar.specs.Derivation.{All}
 use Rattle.grammar.specs.Grammar.{RuleOf, grammarOf}
-use Rattle.grammar.specs.Cost.{Ends}
 use Rattle.grammar.specs.Moves.{Move, Edit, edits, editWords, logToken, repaired}
 use Rattle.grammar.specs.Marks.{Mark, keptMark, addedMarks, Marked, MarksOf}
 use Rattle.grammar.specs.theory.Closed.{all-rest}
@@ -155,7 +154,8 @@ module _ (ws table : List ℕ) (a : Accepted ws) (rights : Rights ws table) (rai
   abbrev result : ℕ → List ℕ → List ℕ
   result p es = restored table (nonterminalCount ws) raise kept p es
 
-  ended : {p : ℕ} {ms : List Move} → Walk (p + 1) [] ms → p ≡ length kept → result (p + 1) (editWords (edits ms)) ≡ result p (editWords (edits ms))
+  ended : {p : ℕ} {ms : List Move} → Walk (p + 1) [] ms → p ≡ length kept
+      → result (p + 1) (editWords (edits ms)) ≡ result p (editWords (edits ms))
   unfolding editWords
   ended {p} {ms} w e =
       let none = walk-over w refl in

@@ -1,5 +1,5 @@
-// The repaired log in marks alone: request (iv) of document 02, and refusal 15. It runs the parse, and then walks over the edit records: kept
-// tokens are copied, and for each inserted symbol the string of its cheapest rules is written.
+// The repaired log in marks alone: request (iv) of document 02, and refusal 15. It runs the parse, and then walks over the edit records:
+// kept tokens are copied, and for each inserted symbol the string of its cheapest rules is written.
 ghost use mathlib.Core.Bool.{true};
 ghost use mathlib.Core.Path.{_≡_};
 ghost use Prim.Native.Nat.{_≤_, _<_};
@@ -39,8 +39,8 @@ enum Put {
 // "Kind (1 delete, 2 insert)."
 const DELETE: u16 = 1;
 
-// Writes the repaired log of a log, from unchecked grammar words, in marks alone: kept tokens, and for each inserted symbol the string that its
-// cheapest rules give. It runs the parse and leaves in the first two buffers what the parse leaves. Any refusal, 15 too, leaves all three
+// Writes the repaired log of a log, from unchecked grammar words, in marks alone: kept tokens, and for each inserted symbol the string that
+// its cheapest rules give. It runs the parse and leaves in the first two buffers what the parse leaves. Any refusal, 15 too, leaves all three
 // zero.
 pub fn marks(
     words: &[u16],

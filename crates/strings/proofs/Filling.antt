@@ -1,8 +1,8 @@
 -- The loops over a right side and over tables: what holds before each turn.
-use Prim.Native.Nat.{ℕ, suc, _+_, _-_, _/_, _%_, _≤_, _<_}
+use Prim.Native.Nat.{ℕ, _+_, _-_, _/_, _%_, _≤_, _<_}
 use mathlib.Core.Path.{_≡_, refl, sym, ap, _∙_, subst}
 use mathlib.Core.Bool.{Bool, true, false, true≢false}
-use mathlib.Core.List.{List, [], _∷_}
+use mathlib.Core.List.{List, _∷_}
 use mathlib.Core.Logic.{dite}
 use native.Mathlib.Decide.{decLt}
 use native.Mathlib.Omega.{arith}
@@ -129,7 +129,8 @@ pub differs : {changed : Bool} {A : Type 0} → changed ≡ true → changed ≡
 differs e f = absurd (true≢false (sym e ∙ f))
 
 -- Where the last turn is over, all entries are passed.
-pub gather-ends : {prices sides old table : List ℕ} {k n : ℕ} → k ≡ n → Gathered k prices sides old table → Gathered n prices sides old table
+pub gather-ends : {prices sides old table : List ℕ} {k n : ℕ} → k ≡ n → Gathered k prices sides old table
+    → Gathered n prices sides old table
 gather-ends {prices} {sides} {old} {table} e g = subst (λ m. Gathered m prices sides old table) e g
 
 pub round-ends : {table lengths old next : List ℕ} {k n : ℕ} → k ≡ n → Rounded table k lengths old next → Rounded table n lengths old next

@@ -1,15 +1,14 @@
 -- The table of right sides, taken from the parser's tables.
 use Prim.Native.Nat.{ℕ, _+_, _-_, _≤_, _<_}
-use mathlib.Core.Path.{_≡_, sym, ap, subst, _∙_}
+use mathlib.Core.Path.{_≡_, ap, subst, _∙_}
 use mathlib.Core.List.{List}
 use native.Mathlib.Omega.{arith}
 use lib.ListN.{length, getD}
 use Rattle.grammar.specs.Words.{Shaped, nonterminalCount, insertCost}
-use Rattle.grammar.specs.Cost.{CheapestRule}
 use Rattle.grammar.specs.Grammar.{RuleOf, grammarOf}
 use Rattle.grammar.specs.theory.Costing.{cheapest-rule-unique}
 use Rattle.grammar.specs.theory.Good.{Accepted, good-words, good-below}
-use Rattle.grammar.specs.theory.Tables.{Cheap, packed}
+use Rattle.grammar.specs.theory.Tables.{Cheap}
 use Rattle.strings.specs.Spelled.{Rights}
 
 pub record CanGather (ws prices sides table : List ℕ) : Type 0 where
@@ -24,7 +23,8 @@ pub record Gathered (count : ℕ) (prices sides old table : List ℕ) : Type 0 w
   pub others : (k : ℕ) → count ≤ k → getD table k 0 ≡ getD old k 0
 
 -- In a table that was blank these are the right sides of cheapest rules.
-pub gathered-rights : (ws prices sides : List ℕ) {old table : List ℕ} → Accepted ws → Cheap (grammarOf ws) (nonterminalCount ws) prices sides
+pub gathered-rights : (ws prices sides : List ℕ) {old table : List ℕ} → Accepted ws
+    → Cheap (grammarOf ws) (nonterminalCount ws) prices sides
     → length old ≡ 64 → ((k : ℕ) → getD old k 0 ≡ 0)
     → Gathered (nonterminalCount ws) prices sides old table → Rights ws table
 gathered-rights ws prices sides a cheap size blank g =

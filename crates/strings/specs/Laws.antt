@@ -5,15 +5,15 @@
 --     deep-spelt                      looking deeper than needed changes nothing
 --     spelt-grows                     looking deeper never makes a string shorter
 use Prim.Native.Nat.{ℕ, zero, suc, _+_, _-_, _*_, _/_, _%_, _≤_, _<_}
-use mathlib.Core.Path.{_≡_, refl, sym, ap, ap₂, subst, _∙_}
+use mathlib.Core.Path.{_≡_, refl, sym, ap, ap₂, _∙_}
 use mathlib.Core.Bool.{Bool, true, false, cond}
-use mathlib.Core.List.{List, [], _∷_, _++_, append-assoc}
-use mathlib.Core.Logic.{_⊎_, inl, inr, ⊎-elim, dite}
+use mathlib.Core.List.{List, [], _∷_, _++_}
+use mathlib.Core.Logic.{inl, inr, dite}
 use native.Mathlib.Decide.{decLt}
 use native.Mathlib.Omega.{arith}
 use borrow.Author.Tests.{lt-ltb, le-ltb, ne-eqb}
 use lib.ListN.{length, getD, length-append}
-use lib.Dec.{eqb, ltb}
+use lib.Dec.{ltb}
 use Rattle.grammar.specs.Derivation.{All}
 use Rattle.grammar.specs.theory.Closed.{total}
 use Rattle.grammar.specs.theory.Tables.{packed}
@@ -35,8 +35,12 @@ unpacked-more n w l = ap (λ (b : Bool). cond b [] ((w % 256) ∷ unpacked n (w 
 
 -- Any number that is large enough does.
 unpacked-enough : (n m w : ℕ) → w ≤ n → w ≤ m → unpacked n w ≡ unpacked m w
-unpacked-enough zero m w a b = let e : w ≡ 0 = omega arith in ap (λ x. unpacked zero x) e ∙ (unpacked-zero zero ∙ sym (ap (λ x. unpacked m x) e ∙ unpacked-zero m))
-unpacked-enough (suc n) zero w a b = let e : w ≡ 0 = omega arith in ap (λ x. unpacked (suc n) x) e ∙ (unpacked-zero (suc n) ∙ sym (ap (λ x. unpacked zero x) e ∙ unpacked-zero zero))
+unpacked-enough zero m w a b =
+    let e : w ≡ 0 = omega arith in
+    ap (λ x. unpacked zero x) e ∙ (unpacked-zero zero ∙ sym (ap (λ x. unpacked m x) e ∙ unpacked-zero m))
+unpacked-enough (suc n) zero w a b =
+    let e : w ≡ 0 = omega arith in
+    ap (λ x. unpacked (suc n) x) e ∙ (unpacked-zero (suc n) ∙ sym (ap (λ x. unpacked zero x) e ∙ unpacked-zero zero))
 unpacked-enough (suc n) (suc m) w a b =
     dite (decLt 0 w)
     (λ l.

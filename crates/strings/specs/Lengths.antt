@@ -3,7 +3,7 @@
 use Prim.Native.Nat.{ℕ, zero, suc, _+_, _-_, _≤_, _<_}
 use mathlib.Core.Path.{_≡_, refl, sym, ap, _∙_, subst}
 use mathlib.Core.Bool.{Bool, false}
-use mathlib.Core.List.{List, [], _∷_}
+use mathlib.Core.List.{List}
 use mathlib.Core.Logic.{dite}
 use native.Mathlib.Decide.{decLt}
 use native.Mathlib.Omega.{arith}
@@ -23,7 +23,7 @@ use Rattle.strings.specs.Laws.{
   deep-below,
 }
 use Rattle.strings.specs.Spelled.{Spells, blank-spelt}
-use Rattle.strings.specs.Spelling.{members, rightOf, joined, spelt, Deep, lengthIn}
+use Rattle.strings.specs.Spelling.{members, rightOf, spelt, Deep, lengthIn}
 
 -- The table holds the length of what each nonterminal spells at depth d.
 pub record Measured (table : List ℕ) (d : ℕ) (lengths : List ℕ) : Type 0 where

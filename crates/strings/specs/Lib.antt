@@ -5,9 +5,11 @@
 --     Gathering   how the table comes from the parser's tables
 --     Lengths     what the table of lengths holds, round by round
 --     Work        what is left to be spelled, with the steps that it takes
+--     Turns       the turns of spelling
 pub mod Spelling
 pub mod Laws
 pub mod Spelled
 pub mod Gathering
 pub mod Lengths
 pub mod Work
+pub mod Turns

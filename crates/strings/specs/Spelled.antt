@@ -9,7 +9,7 @@ use native.Mathlib.Omega.{arith}
 use lib.ListN.{length, getD}
 use Rattle.grammar.specs.Words.{RuleSymbol, nonterminalCount, terminalCount, insertCost}
 use Rattle.grammar.specs.Derivation.{All}
-use Rattle.grammar.specs.Cost.{stringCost, SymbolCost, ListCost, CheapestRule, Ends}
+use Rattle.grammar.specs.Cost.{SymbolCost, ListCost, CheapestRule, Ends}
 use Rattle.grammar.specs.Grammar.{RuleOf, grammarOf}
 use Rattle.grammar.specs.theory.CheapestRules as CheapestRules
 use Rattle.grammar.specs.theory.Closed.{closed-down}

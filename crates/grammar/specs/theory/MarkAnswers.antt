@@ -102,7 +102,8 @@ module _ {wordOf : Mark → ℕ} {Asked : Type 0} {ws log : List ℕ} {editRoom 
     marks-exactly q = (λ e. refused-as p e, λ d. marks-unique p (as-refused d .2) .0)
 
   -- and leaves zeros.
-  pub marks-zeros : {a : Outcome (Counts × ℕ)} {x u s : List ℕ} {q : Refusal} → Marks wordOf Asked ws log editRoom ruleRoom tokenRoom a x u s
+  pub marks-zeros : {a : Outcome (Counts × ℕ)} {x u s : List ℕ} {q : Refusal}
+      → Marks wordOf Asked ws log editRoom ruleRoom tokenRoom a x u s
       → a ≡ refused q → (x ≡ cleared editRoom) × (u ≡ cleared ruleRoom) × (s ≡ cleared tokenRoom)
   marks-zeros (Marks.unparsed p) e = let z = parses-zeros p refl in (z .0, z .1, refl)
   marks-zeros (Marks.short p m l) e = (refl, refl, refl)

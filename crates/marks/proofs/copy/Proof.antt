@@ -1,7 +1,7 @@
 -- `marks::copy` meets its contract: the words up to place i are copied. The measure is what is left.
 use borrow.Author.Needs.{needs}
 use native.Mathlib.Omega.{arith}
-use Rattle.marks.proofs.Walking.{Copying, copy-begins, copy-length, copy-goes, copy-ends}
+use Rattle.marks.proofs.Copying.{Copying, copy-begins, copy-length, copy-goes, copy-ends}
 use Prim.Native.Nat.{_-_}
 use borrow.Author.Needs.{needs}
 use native.Mathlib.Omega.{arith}

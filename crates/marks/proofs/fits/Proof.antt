@@ -3,7 +3,7 @@ use Rattle.marks.specs.Restoring.{behindBy}
 use Rattle.base.specs.Telling.{tells-le}
 use borrow.Author.Needs.{needs}
 use native.Mathlib.Omega.{arith}
-use Rattle.marks.proofs.Walking.{Sizing, size-begins, size-next, size-over, size-goes, size-passed, size-ends, added-small}
+use Rattle.marks.proofs.Sizing.{Sizing, size-begins, size-next, size-over, size-goes, size-passed, size-ends, added-small}
 use Prim.Native.Nat.{_-_}
 use mathlib.Core.Path.{ap, _∙_}
 use native.Mathlib.Omega.{arith}

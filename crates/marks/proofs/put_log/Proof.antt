@@ -1,6 +1,6 @@
 -- `marks::put_log` meets its contract: a log without edits is its own result.
 use native.Mathlib.Omega.{arith}
-use Rattle.marks.proofs.Walking.{log-short, log-whole}
+use Rattle.marks.proofs.Copying.{log-short, log-whole}
 use native.Mathlib.Omega.{arith}
 use borrow.Author.Needs.{needs}
 use Rattle.marks.proofs.put_log.Statement.{statement}

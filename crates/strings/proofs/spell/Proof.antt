@@ -1,9 +1,8 @@
 -- `strings::spell` meets its contract: what is written and what is still to be spelled make the string. The measure is the steps left.
 use borrow.Author.Needs.{needs}
 use native.Mathlib.Omega.{arith}
-use Rattle.strings.specs.Work.{
-  Spelling,
-  stepsLeft,
+use Rattle.strings.specs.Work.{Spelling, stepsLeft}
+use Rattle.strings.specs.Turns.{
   spelling-begins,
   spelling-ends,
   spelling-up,
