@@ -137,10 +137,10 @@ pub extern "C" fn odhrashup_marks(
     base::clear_numbers(counts);
     let marking = marks::marks(words, log, edits, rules, tokens);
     match marking {
-        Marking::Marked(made, size) => {
-            put(counts, 0, made.moves as u64);
-            put(counts, 1, made.records as u64);
-            put(counts, 2, made.listed as u64);
+        Marking::Marked(parse, size) => {
+            put(counts, 0, parse.moves as u64);
+            put(counts, 1, parse.records as u64);
+            put(counts, 2, parse.listed as u64);
             put(counts, 3, size as u64);
             0
         }
