@@ -1,3 +1,4 @@
 pub mod Sums
 pub mod Added
 pub mod Turns
+pub mod Closing

@@ -5,7 +5,7 @@ use mathlib.Core.Path.{_≡_, refl, sym, ap, _∙_, subst}
 use mathlib.Core.List.{List, [], _∷_, _++_, append-nil}
 use native.Mathlib.Omega.{arith}
 use borrow.Author.Count.{below-more}
-use native.Mathlib.Nat.{suc-mul}
+use native.Mathlib.Nat.{suc-mul, mul-le-mul-right}
 use lib.ListN.{length, getD, set, replicate, drop, drop-of-length-le}
 use lib.Seq.{getD-set-same, getD-set-other}
 use mir.Syntax.{w64}
@@ -53,3 +53,11 @@ all-zero (suc n) (suc k) = all-zero n k
 -- Rounds end: the sum of 64 sets stays below 64 * 2 ^ 64.
 pub sum-below : (l : List ℕ) → length l ≡ 64 → ((i : ℕ) → Fits w64 (getD l i 0)) → sum l ≤ 64 * 2 ^ 64
 sum-below l e f = subst (λ n. sum l ≤ n * 2 ^ 64) e (sum-bound l (2 ^ 64) (λ i. let g = f i .fits in omega arith))
+
+-- Of two numbers the first decides, the second where the first is the same.
+pub first-less : (limit a b x y : ℕ) → b < a → y < limit → b * limit + y < a * limit + x
+first-less limit a b x y less small =
+    let more : suc b * limit ≤ a * limit = mul-le-mul-right limit less in omega (arith, suc-mul b limit)
+
+pub second-less : (limit a b x y : ℕ) → b ≡ a → y < x → b * limit + y < a * limit + x
+second-less limit a b x y same less = omega (arith, ap (λ n. n * limit) same)

@@ -5,6 +5,7 @@ ghost use mathlib.Core.Bool.{_||_};
 ghost use Prim.Native.Nat.{_<_};
 ghost use lib.ListN.{length};
 ghost use Rattle.growth.specs.Added.{Added};
+ghost use Rattle.growth.specs.Closing.{Closing, Fed, Listed, Noted};
 
 // Adds the members of the mask to set k, and answers whether one of them was not there.
 pub fn add_to(all: &mut [u64], k: usize, mask: u64) -> bool
@@ -25,4 +26,44 @@ pub fn either(a: bool, b: bool) -> bool
     ensures { λ r. ⌜ r ≡ (a || b) ⌝ }
 {
     if a { true } else { b }
+}
+
+// Passes each set on to the sets that it feeds, until nothing changes. The list has the sets that may have to be passed on: at first all
+// that feed one, then those that have grown. It is a word of bits, so that none stands there twice.
+pub fn close(feeds: &[u64], list: u64, sets: &mut [u64])
+    requires { ⌜ length (now feeds) ≡ 64 ⌝ }
+    requires { ⌜ length (now sets) ≡ 64 ⌝ }
+    requires { ⌜ Listed (now feeds) list ⌝ }
+    ensures { λ _. ⌜ Closing (now (feeds .entry)) (now (sets .entry)) (now (sets .exit)) ⌝ }
+{
+    let mut waiting = list;
+    while 0 < waiting {
+        let k = sets::least(waiting);
+        let grown = feed(feeds[k as usize], sets[k as usize], sets);
+        waiting = sets::union(sets::without(waiting, k), grown);
+    }
+}
+
+// Adds the members of the mask to each of the sets in `fed`, and gives those that have grown.
+fn feed(fed: u64, mask: u64, sets: &mut [u64]) -> u64
+    requires { ⌜ length (now sets) ≡ 64 ⌝ }
+    ensures { λ r. ⌜ Fed fed mask (now (sets .entry)) (now (sets .exit)) r ⌝ }
+{
+    let mut rest = fed;
+    let mut grown = 0;
+    while 0 < rest {
+        let j = sets::least(rest);
+        let more = add_to(sets, j as usize, mask);
+        grown = note(grown, j, more);
+        rest = sets::without(rest, j);
+    }
+    grown
+}
+
+// The set, and i where the answer is yes.
+fn note(s: u64, i: u16, yes: bool) -> u64
+    requires { ⌜ i < 64 ⌝ }
+    ensures { λ r. ⌜ Noted s i yes r ⌝ }
+{
+    if yes { sets::with(s, i) } else { s }
 }

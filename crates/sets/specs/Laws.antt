@@ -3,6 +3,7 @@
 --     with-same, with-keeps, with-cases         what is in `with s i`
 --     union-left, union-right, union-cases      what is in `union a b`
 --     with-grows, union-grows                   neither makes the number smaller
+--     union-none                                the empty set adds nothing
 --     with-unchanged, union-unchanged           where they change nothing, what was added was there
 --     some-member                               a set that is not 0 has a member
 --     same-members                              numbers of k bits with the same members are one
@@ -14,7 +15,7 @@ use native.Mathlib.Omega.{arith}
 use native.Mathlib.Nat.{pow-suc, div-one, zero-div, div-add-mod', mod-lt, zero-lt-suc, div-div-eq-div-mul, mul-comm}
 use lib.Dec.{eqb}
 use lib.Arith.{digits-mod}
-use lib.Bits.{bitOr, bitAnd, or-shr, or-step, or-add-and, and-le-r, and-shr, and-step}
+use lib.Bits.{bitOr, bitAnd, or-shr, or-step, or-add-and, or-zero-r, and-le-r, and-shr, and-step}
 use borrow.Author.Tests.{eqb-true, eq-eqb}
 use Rattle.sets.specs.Bits.{member}
 use Rattle.sets.specs.Operations.{with, union, Shared}
@@ -22,17 +23,17 @@ use Rattle.sets.specs.Operations.{with, union, Shared}
 -- ---- Bits
 
 -- Bit i of s.
-abbrev bit : ℕ → ℕ → ℕ
+abbrev pub bit : ℕ → ℕ → ℕ
 bit s i = s / 2 ^ i % 2
 
-bit-small : (s i : ℕ) → bit s i < 2
+pub bit-small : (s i : ℕ) → bit s i < 2
 bit-small s i = mod-lt (s / 2 ^ i) (zero-lt-suc 1)
 
-member-bit : (s i : ℕ) → member s i ≡ true → bit s i ≡ 1
+pub member-bit : (s i : ℕ) → member s i ≡ true → bit s i ≡ 1
 unfolding member
 member-bit s i m = eqb-true (bit s i) 1 m
 
-bit-member : (s i : ℕ) → bit s i ≡ 1 → member s i ≡ true
+pub bit-member : (s i : ℕ) → bit s i ≡ 1 → member s i ≡ true
 unfolding member
 bit-member s i e = eq-eqb (bit s i) 1 e
 
@@ -49,19 +50,19 @@ and-low a b =
 or-bit : (a b i : ℕ) → bit (bitOr a b) i ≡ max (bit a i) (bit b i)
 or-bit a b i = ap (λ (n : ℕ). n % 2) (or-shr a b i) ∙ or-low (a / 2 ^ i) (b / 2 ^ i)
 
-and-bit : (a b i : ℕ) → bit (bitAnd a b) i ≡ min (bit a i) (bit b i)
+pub and-bit : (a b i : ℕ) → bit (bitAnd a b) i ≡ min (bit a i) (bit b i)
 and-bit a b i = ap (λ (n : ℕ). n % 2) (and-shr a b i) ∙ and-low (a / 2 ^ i) (b / 2 ^ i)
 
 -- Bit i + 1 is bit i of the half.
-bit-suc : (s i : ℕ) → bit s (suc i) ≡ bit (s / 2) i
+pub bit-suc : (s i : ℕ) → bit s (suc i) ≡ bit (s / 2) i
 bit-suc s i =
     ap (λ (n : ℕ). n % 2)
     (ap (λ (n : ℕ). s / n) (pow-suc 2 i ∙ mul-comm (2 ^ i) 2) ∙ sym (div-div-eq-div-mul s 2 (2 ^ i)))
 
-bit-zero : (s : ℕ) → bit s 0 ≡ s % 2
+pub bit-zero : (s : ℕ) → bit s 0 ≡ s % 2
 bit-zero s = ap (λ (n : ℕ). n % 2) (div-one s)
 
-zero-bit : (i : ℕ) → bit 0 i ≡ 0
+pub zero-bit : (i : ℕ) → bit 0 i ≡ 0
 zero-bit i = ap (λ (n : ℕ). n % 2) (zero-div (2 ^ i))
 
 half-pow : (i : ℕ) → 2 ^ suc i / 2 ≡ 2 ^ i
@@ -95,7 +96,7 @@ pub union-right : (a b i : ℕ) → member b i ≡ true → member (union a b) i
 unfolding union
 union-right a b i m = bit-member _ i (omega (arith, or-bit a b i, member-bit b i m, bit-small a i))
 
-bit-cases : (s i : ℕ) (n : ℕ) → bit s i ≡ n → (bit s i ≡ 1) ⊎ (bit s i ≡ 0)
+pub bit-cases : (s i : ℕ) (n : ℕ) → bit s i ≡ n → (bit s i ≡ 1) ⊎ (bit s i ≡ 0)
 bit-cases s i zero e = inr e
 bit-cases s i (suc zero) e = inl e
 bit-cases s i (suc (suc n)) e = absurd (omega (arith, bit-small s i))
@@ -135,13 +136,17 @@ pub with-grows : (s i : ℕ) → s ≤ with s i
 unfolding with union
 with-grows s i = union-grows s (2 ^ i)
 
+pub union-none : (a : ℕ) → union a 0 ≡ a
+unfolding union
+union-none a = or-zero-r a
+
 pub union-unchanged : (a b : ℕ) → union a b ≡ a → (i : ℕ) → member b i ≡ true → member a i ≡ true
 union-unchanged a b e i m = subst (λ (s : ℕ). member s i ≡ true) e (union-right a b i m)
 
 pub with-unchanged : (s i : ℕ) → with s i ≡ s → member s i ≡ true
 with-unchanged s i e = subst (λ (n : ℕ). member n i ≡ true) e (with-same s i)
 
-half-below : (k a : ℕ) → a < 2 ^ suc k → a / 2 < 2 ^ k
+pub half-below : (k a : ℕ) → a < 2 ^ suc k → a / 2 < 2 ^ k
 half-below k a h = omega (arith, pow-suc 2 k)
 
 member-suc : (s i : ℕ) → member s (suc i) ≡ member (s / 2) i

@@ -1,7 +1,8 @@
 -- What the operations on sets give, and what the tests look for.
-use Prim.Native.Nat.{ℕ, _^_, _<_}
+use Prim.Native.Nat.{ℕ, _-_, _^_, _<_}
 use mathlib.Core.Bool.{true}
 use mathlib.Core.Path.{_≡_}
+use mathlib.Core.Logic.{_↔_}
 use lib.Bits.{bitOr}
 use Rattle.sets.specs.Bits.{member}
 
@@ -19,3 +20,17 @@ pub record Shared (a b : ℕ) : Type 0 where
   pub below : number < 64
   pub left : member a number ≡ true
   pub right : member b number ≡ true
+
+-- The set s without i, which is in it.
+unfoldable pub without : ℕ → ℕ → ℕ
+without s i = s - 2 ^ i
+
+-- The least number of the set s is i.
+pub record Least (s i : ℕ) : Type 0 where
+  pub below : i < 64
+  pub held : member s i ≡ true
+  pub least : (j : ℕ) → j < i → member s j ≡ true → ⊥
+
+-- The set r has what is in a and not in b.
+pub record Beyond (a b r : ℕ) : Type 0 where
+  pub exact : (i : ℕ) → (member r i ≡ true) ↔ ((member a i ≡ true) × (member b i ≡ true → ⊥))

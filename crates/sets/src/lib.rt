@@ -2,10 +2,11 @@
 // `with` and `union` what they hold, and that they never make the number smaller.
 // Each of these compiles to an instruction or two.
 ghost use mathlib.Core.Path.{_≡_};
+ghost use mathlib.Core.Bool.{true};
 ghost use Prim.Native.Nat.{_<_};
 ghost use Rattle.sets.specs.Bits.{member};
 ghost use Rattle.base.specs.Telling.{Tells};
-ghost use Rattle.sets.specs.Operations.{with, union, Shared};
+ghost use Rattle.sets.specs.Operations.{with, union, without, Beyond, Least, Shared};
 
 // Number i is in the set.
 pub fn has(s: u64, i: u16) -> bool
@@ -35,4 +36,28 @@ pub fn shared(a: u64, b: u64) -> bool
     ensures { λ r. ⌜ Tells (Shared a b) r ⌝ }
 {
     (a & b) != 0
+}
+
+// The least number of a set that has some.
+pub fn least(s: u64) -> u16
+    requires { ⌜ 0 < s ⌝ }
+    ensures { λ r. ⌜ Least s r ⌝ }
+{
+    u64::trailing_zeros(s) as u16
+}
+
+// The set without i, which is in it.
+pub fn without(s: u64, i: u16) -> u64
+    requires { ⌜ i < 64 ⌝ }
+    requires { ⌜ member s i ≡ true ⌝ }
+    ensures { λ r. ⌜ r ≡ without s i ⌝ }
+{
+    s - (1u64 << i)
+}
+
+// What is in a and not in b.
+pub fn beyond(a: u64, b: u64) -> u64
+    ensures { λ r. ⌜ Beyond a b r ⌝ }
+{
+    a & !b
 }
