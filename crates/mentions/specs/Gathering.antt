@@ -1,0 +1,131 @@
+-- The tables, rule by rule.
+--     gather-begins, gather-goes, gather-ends   which rules mention a nonterminal
+--     use-begins, use-goes, use-ends            which nonterminals the rules of one mention
+use Prim.Native.Nat.{ℕ, _+_, _*_, _/_, _%_, _^_, _≤_, _<_}
+use mathlib.Core.Path.{_≡_, refl, sym, ap, _∙_, subst}
+use mathlib.Core.Bool.{Bool, true}
+use mathlib.Core.List.{List, List·Memᴰ}
+use mathlib.Core.Logic.{_⊎_, _↔_, inl, inr, ⊎-elim}
+use native.Mathlib.Omega.{arith}
+use lib.ListN.{length, getD}
+use Rattle.base.specs.Choices.{below-or, below-or-at}
+use Rattle.grammar.specs.Words.{ruleCount, leftSide, rightSide, RuleSymbol, Shaped}
+use Rattle.grammar.specs.theory.Members.{all-at}
+use Rattle.grammar.specs.theory.RightSides.{right-symbols}
+use Rattle.shape.specs.Accessors.{LeftOf}
+use Rattle.sets.specs.Bits.{member}
+use Rattle.sets.specs.Laws.{empty-none, some-member}
+use Rattle.growth.specs.Added.{Added}
+use Rattle.mentions.specs.Mentions.{Mentions, InRow, Blank, Gathered, Uses, Used}
+use Rattle.mentions.specs.Putting.{Mentioned, Plain}
+
+pub gather-begins : {ws table : List ℕ} → Blank 260 table → Gathered ws 0 table
+gather-begins {table = table} b =
+    record {
+      size = b .size;
+      named = λ k q h i. (λ m. absurd (none k q m), λ g. absurd (omega (arith, g .0)));
+      plain = λ q i. (λ m. absurd (none 64 q m), λ g. absurd (omega (arith, g .0)));
+    }
+  where
+    none : (r q : ℕ) → InRow table r q → ⊥
+    none r q m = empty-none (q % 64) (subst (λ s. member s (q % 64) ≡ true) (b .zeros (4 * r + q / 64)) m)
+
+-- A set without members is 0.
+no-members : (s : ℕ) → s < 2 ^ 64 → ((k : ℕ) → member s k ≡ true → ⊥) → s ≡ 0
+no-members s small none =
+    ⊎-elim (λ zero. omega arith) (λ some. let at = some-member 64 s small some in absurd (none (at .number) (at .held)))
+    (below-or s 1)
+
+-- No symbol is 128.
+no-symbol : {t n : ℕ} → RuleSymbol t n (64 + 64) → n ≤ 64 → t ≤ 64 → ⊥
+no-symbol (RuleSymbol.terminal low high) few some = omega arith
+no-symbol (RuleSymbol.nonterminal low high) few some = omega arith
+
+pub gather-goes : {ws : List ℕ} {p named : ℕ} {old mid new : List ℕ} → Shaped ws → Gathered ws p old → p < ruleCount ws → named < 2 ^ 64
+    → Mentioned ws p 0 old mid named → Plain p named mid new → Gathered ws (p + 1) new
+gather-goes {ws} {p} {named} {old} {mid} {new} shaped g counted fits m l =
+    record {
+      size = l .size;
+      named = λ k q h i. (forth k q h i, λ u. back k q h i (u .1) (below-or-at q p (u .0)));
+      plain = λ q i. (forthPlain q i, λ u. backPlain q i (u .1) (below-or-at q p (u .0)));
+    }
+  where
+    forth : (k q : ℕ) → k < 64 → q < 256 → InRow new k q → (q < p + 1) × Mentions ws q k
+    forth k q h i r =
+        ⊎-elim
+        (λ a.
+        ⊎-elim (λ b. let u = g .named k q h i .0 b in (omega (arith, u .0), u .1))
+        (λ b. let e = b .1 in (omega arith, subst (λ n. Mentions ws n k) (sym e) (b .0)))
+        (m .source k q i a))
+        (λ a. absurd (omega (arith, a .0)))
+        (l .source k q i r)
+
+    back : (k q : ℕ) → k < 64 → q < 256 → Mentions ws q k → (q < p) ⊎ (q ≡ p) → InRow new k q
+    back k q h i u (inl before) = l .keeps k q (m .keeps k q (g .named k q h i .1 (before, u)))
+    back k q h i u (inr e) =
+        subst (λ n. InRow new k n) (sym e) (l .keeps k p (m .puts k (subst (λ n. Mentions ws n k) e u) .0))
+
+    forthPlain : (q : ℕ) → q < 256 → InRow new 64 q → (q < p + 1) × ((k : ℕ) → Mentions ws q k → ⊥)
+    forthPlain q i r =
+        ⊎-elim
+        (λ a.
+        ⊎-elim (λ b. let u = g .plain q i .0 b in (omega (arith, u .0), u .1)) (λ b. absurd (no-symbol (all-at (right-symbols ws shaped p counted) (b .0)) (shaped .nonterminals-high) (shaped .terminals-high)))
+        (m .source 64 q i a))
+        (λ a.
+        let e = a .1 in (
+          omega arith,
+          λ k u.
+              empty-none k (subst (λ s. member s k ≡ true) (a .2) (m .puts k (subst (λ n. Mentions ws n k) e u) .1)),
+        ))
+        (l .source 64 q i r)
+
+    backPlain : (q : ℕ) → q < 256 → ((k : ℕ) → Mentions ws q k → ⊥) → (q < p) ⊎ (q ≡ p) → InRow new 64 q
+    backPlain q i u (inl before) = l .keeps 64 q (m .keeps 64 q (g .plain q i .1 (before, u)))
+    backPlain q i u (inr e) =
+        subst (λ n. InRow new 64 n) (sym e)
+        (l .here (no-members named fits (λ k h. u k (subst (λ n. Mentions ws n k) (sym e) (m .origin k h)))))
+
+pub gather-ends : {ws table : List ℕ} {p n : ℕ} → Gathered ws p table → p ≡ n → Gathered ws n table
+gather-ends {ws} {table} g e = subst (λ m. Gathered ws m table) e g
+
+pub use-begins : {ws uses : List ℕ} → Blank 64 uses → Used ws 0 uses
+use-begins b =
+    record {
+      size = b .size;
+      exact = λ k j. (
+        λ m. absurd (empty-none j (subst (λ s. member s j ≡ true) (b .zeros k) m)),
+        λ u. absurd (omega (arith, u .before)),
+      );
+    }
+
+pub use-goes : {ws : List ℕ} {p l named : ℕ} {old new table next : List ℕ} {b : Bool} → Used ws p old → LeftOf ws p l
+    → Mentioned ws p 0 table next named → Added old l named new b → Used ws (p + 1) new
+use-goes {ws} {p} {l} {named} {old} {new} u left m a =
+    record { size = a .same ∙ u .size; exact = λ k j. (forth k j, back k j) }
+  where
+    forth : (k j : ℕ) → member (getD new k 0) j ≡ true → Uses ws (p + 1) k j
+    forth k j h =
+        ⊎-elim
+        (λ g.
+        let was = u .exact k j .0 g in
+        record { rule = was .rule; before = omega (arith, was .before); left = was .left; mentions = was .mentions })
+        (λ g.
+        let e = g .0 in
+        record { rule = p; before = omega arith; left = omega (arith, left .names); mentions = m .origin j (g .1) })
+        (a .source k j h)
+
+    back : (k j : ℕ) → Uses ws (p + 1) k j → member (getD new k 0) j ≡ true
+    back k j v =
+        ⊎-elim
+        (λ before.
+        a .keeps k j
+        (u .exact k j .1 (record { rule = v .rule; before = before; left = v .left; mentions = v .mentions })))
+        (λ e.
+        let here = subst (λ n. Mentions ws n j) e (v .mentions) in
+        let named = subst (λ n. leftSide ws n ≡ 64 + k) e (v .left) in
+        let same : l ≡ k = omega (arith, left .names) in
+        subst (λ n. member (getD new n 0) j ≡ true) same (a .holds j (m .puts j here .1)))
+        (below-or-at (v .rule) p (v .before))
+
+pub use-ends : {ws uses : List ℕ} {p n : ℕ} → Used ws p uses → p ≡ n → Used ws n uses
+use-ends {ws} {uses} u e = subst (λ m. Used ws m uses) e u

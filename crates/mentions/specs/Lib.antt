@@ -1,0 +1,3 @@
+pub mod Mentions
+pub mod Putting
+pub mod Gathering
