@@ -1,4 +1,4 @@
 pub mod Beginning
 pub mod Summing
 pub mod Lowering
-pub mod Rounding
+pub mod Listing

@@ -12,7 +12,7 @@ use Rattle.shape.specs.Accessors.{SizeOf, SymbolAt, right-none, right-from}
 pub record Summed (ws : List ℕ) (p : ℕ) (cost : ℕ → ℕ) (i sum : ℕ) : Type 0 where
   pub inside : i ≤ length (rightSide ws p)
   pub is : sum ≡ total cost (drop i (rightSide ws p))
-  pub room : sum + 60001 * i ≤ 480008
+  pub room : sum + 1000000 * i ≤ 8000000
 
 pub sum-none : {ws : List ℕ} {p n : ℕ} (cost : ℕ → ℕ) → SizeOf ws p n → Summed ws p cost n 0
 unfolding total
@@ -23,7 +23,7 @@ sum-none cost size =
       room = omega (arith, size .small);
     }
 
-pub sum-more : {ws : List ℕ} {p i X sum : ℕ} {cost : ℕ → ℕ} → Summed ws p cost i sum → 0 < i → SymbolAt ws p (i - 1) X → cost X ≤ 60001
+pub sum-more : {ws : List ℕ} {p i X sum : ℕ} {cost : ℕ → ℕ} → Summed ws p cost i sum → 0 < i → SymbolAt ws p (i - 1) X → cost X ≤ 1000000
     → Summed ws p cost (i - 1) (sum + cost X)
 unfolding total
 sum-more {cost = cost} s some at limit =
@@ -54,3 +54,9 @@ total-less f g (Y ∷ α) X (List·Memᴰ·head e) each less =
     omega (arith, total-no-more f g α (λ Z m. each Z (List·Memᴰ·tail m)))
 total-less f g (Y ∷ α) X (List·Memᴰ·tail m) each less =
     omega (arith, each Y (List·Memᴰ·head refl), total-less f g α X m (λ Z i. each Z (List·Memᴰ·tail i)) less)
+
+pub total-same : (f g : ℕ → ℕ) (α : List ℕ) → ((X : ℕ) → List·Memᴰ X α → f X ≡ g X) → total f α ≡ total g α
+total-same f g α each =
+    let up = total-no-more f g α (λ X m. omega (arith, each X m)) in
+    let down = total-no-more g f α (λ X m. omega (arith, each X m)) in
+    omega arith

@@ -1,5 +1,5 @@
 pub mod Costed
 pub mod Held
-pub mod Noting
+pub mod Visiting
 pub mod Settled
 pub mod OnlyCosts

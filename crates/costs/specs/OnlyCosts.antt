@@ -22,6 +22,20 @@ module _ (ws l m : List ℕ) (one : Costed ws l) (two : Costed ws m) where
       (λ over. omega (arith, two .over k h over (mine .string) (mine .yields), mine .costs))
       (below-or (getD m (64 + k) 0) 60001)
 
+  -- A cost above 60,000 is the same in both: 60,001 where there is a string, and 1,000,000 where there is none.
+  high-cost : (k : ℕ) → k < nonterminalCount ws → 60001 ≤ getD l (64 + k) 0 → 60001 ≤ getD m (64 + k) 0
+      → getD l (64 + k) 0 ≡ getD m (64 + k) 0
+  high-cost k h over also =
+      ⊎-elim
+      (λ low.
+      ⊎-elim (λ small. omega arith) (λ none. absurd (two .barren k h (omega (arith, none .2)) (one .productive k h low)))
+      (two .limit (64 + k)))
+      (λ none.
+      ⊎-elim (λ small. absurd (one .barren k h (omega (arith, none .2)) (two .productive k h small)))
+      (λ also. omega (arith, none .2, also .2))
+      (two .limit (64 + k)))
+      (one .limit (64 + k))
+
 pub costs-unique : (ws l m : List ℕ) → Costed ws l → Costed ws m → l ≡ m
 costs-unique ws l m one two = ext-getD 0 l m (one .size ∙ sym (two .size)) same
   where
@@ -33,7 +47,7 @@ costs-unique ws l m one two = ext-getD 0 l m (one .size ∙ sym (two .size)) sam
         omega (arith, no-lower ws m l two one k h (omega arith)))
         (λ over.
         ⊎-elim (λ known. omega (arith, no-lower ws m l two one k h (omega arith)))
-        (λ also. omega (arith, one .limit (64 + k), two .limit (64 + k)))
+        (λ also. high-cost ws l m one two k h over also)
         (below-or (getD m (64 + k) 0) 60001))
         (below-or (getD l (64 + k) 0) 60001)
 

@@ -1,29 +1,41 @@
 // The cost of each symbol and the cheapest rule of each nonterminal, in one table: entry t is the insert cost of terminal t, entry 64 + k
-// the cost of nonterminal k, entry 128 + k the number of its cheapest rule. Costs begin above 60,000 and fall, rule by rule, until a round
-// lowers none. Their sum falls with each round and is the measure. Each round notes the rules anew: those of the last one are taken over
-// costs that stand, since a rule by which a cost fell need not be the lowest that reaches it.
+// the cost of nonterminal k, entry 128 + k the number of its cheapest rule. Costs begin above every sum and fall: a list has the
+// nonterminals whose cost fell, and only the rules that mention one of them are visited again. The sum of the costs falls with each that
+// goes on the list, and is the measure. The lowest of the rules that reach a cost is noted along with it.
 ghost use mathlib.Core.Path.{_≡_};
-ghost use Prim.Native.Nat.{_<_};
+ghost use Prim.Native.Nat.{_+_, _*_, _<_};
+ghost use mathlib.Core.Bool.{true};
 ghost use lib.ListN.{length};
+ghost use Rattle.sets.specs.Bits.{member};
 ghost use Rattle.grammar.specs.Words.{Shaped, rightSide, ruleCount};
 ghost use Rattle.grammar.specs.theory.Closed.{total};
 ghost use Rattle.shape.specs.Ready.{Ready};
+ghost use Rattle.mentions.specs.Mentions.{InRow, MentionsOf};
 ghost use Rattle.costs.specs.Costed.{Costed};
-ghost use Rattle.costs.specs.Held.{Begun, Cleared, Held, Limited, entry};
-ghost use Rattle.costs.specs.Noting.{Rounded, Visited};
+ghost use Rattle.costs.specs.Held.{Begun, Cleared, Fresh, Held, Limited, entry};
+ghost use Rattle.costs.specs.Visiting.{Capped, Chosen, Fell, InWord, Known, Revised, RulesOf};
 
 // What stands for a cost above 60,000.
 const OVER: u32 = 60001;
 
-// Fills the table. A cost of at most 60,000 is exact, and so is its rule; one of 60,001 says that the nonterminal derives no terminal
-// string of cost 60,000 or less: refusal 8, where it derives one at all.
-pub fn costs(words: &[u16], places: &[u16], table: &mut [u32])
+// What stands for the cost of a nonterminal that derives no terminal string: more than eight costs together.
+const NONE: u32 = 1000000;
+
+// Fills the table. A cost of at most 60,000 is exact, and so is its rule; one of 60,001 says that the nonterminal derives terminal
+// strings, and none of cost 60,000 or less: refusal 8; one of 1,000,000 that it derives none: refusal 7.
+pub fn costs(words: &[u16], places: &[u16], mentions: &[u64], table: &mut [u32])
     requires { ⌜ Ready (now words) (now places) ⌝ }
+    requires { ⌜ MentionsOf (now words) (now mentions) ⌝ }
     requires { ⌜ length (now table) ≡ 192 ⌝ }
     ensures { λ _. ⌜ Costed (now (words .entry)) (now (table .exit)) ⌝ }
 {
     begin(words, table);
-    while round(words, places, table) {}
+    let mut list = visit_row(words, places, mentions, mentions::NOTHING, table);
+    while 0 < list {
+        let k = sets::least(list);
+        let fallen = visit_row(words, places, mentions, k as usize, table);
+        list = sets::union(sets::without(list, k), fallen);
+    }
 }
 
 // ---- The first costs
@@ -32,7 +44,7 @@ pub fn costs(words: &[u16], places: &[u16], table: &mut [u32])
 fn begin(words: &[u16], table: &mut [u32])
     requires { ⌜ Shaped (now words) ⌝ }
     requires { ⌜ length (now table) ≡ 192 ⌝ }
-    ensures { λ _. ⌜ Held (now (words .entry)) (now (table .exit)) ⌝ }
+    ensures { λ _. ⌜ Fresh (now (words .entry)) (now (table .exit)) ⌝ }
 {
     base::clear_longs(table);
     begin_terminals(words, table);
@@ -53,58 +65,126 @@ fn begin_terminals(words: &[u16], table: &mut [u32])
     }
 }
 
-// Over 60,000 for a nonterminal.
+// None for a nonterminal.
 fn begin_nonterminals(words: &[u16], table: &mut [u32])
     requires { ⌜ Shaped (now words) ⌝ }
     requires { ⌜ Begun (now words) 0 (now table) ⌝ }
-    ensures { λ _. ⌜ Held (now (words .entry)) (now (table .exit)) ⌝ }
+    ensures { λ _. ⌜ Fresh (now (words .entry)) (now (table .exit)) ⌝ }
 {
     let count = shape::nonterminal_count(words);
     let mut k = 0;
     while k < count {
-        table[64 + k] = OVER;
+        table[64 + k] = NONE;
         k += 1;
     }
 }
 
-// ---- The rounds
+// ---- The visits
 
-// Every rule once, from the last to the first: most rules name nonterminals whose own rules stand behind them, and the lowest rule is to
-// stay. Whether a cost falls.
-fn round(words: &[u16], places: &[u16], table: &mut [u32]) -> bool
+// Visits the rules of a row, and gives the nonterminals whose cost fell.
+fn visit_row(words: &[u16], places: &[u16], mentions: &[u64], row: usize, table: &mut [u32]) -> u64
     requires { ⌜ Ready (now words) (now places) ⌝ }
+    requires { ⌜ MentionsOf (now words) (now mentions) ⌝ }
+    requires { ⌜ row < 65 ⌝ }
     requires { ⌜ Held (now words) (now table) ⌝ }
-    ensures { λ r. ⌜ Rounded (now (words .entry)) (now (table .entry)) (now (table .exit)) r ⌝ }
+    ensures { λ r. ⌜ Revised (now (words .entry)) (InRow (now (mentions .entry)) row) (now (table .entry)) (now (table .exit)) r ⌝ }
 {
-    let mut changed = false;
-    let mut p = shape::rule_count(words);
-    while 0 < p {
-        p -= 1;
-        let falls = lower(words, places, p, table);
-        changed = growth::either(falls, changed);
+    let mut fallen = 0;
+    let mut w = 0;
+    while w < mentions::ROW {
+        let more = visit_word(words, places, mentions[mentions::ROW * row + w], w, table);
+        fallen = sets::union(fallen, more);
+        w += 1;
     }
-    changed
+    fallen
 }
 
-// The left side of rule p costs no more than its right side, and where it costs as much, p is its rule: whether its cost falls.
-fn lower(words: &[u16], places: &[u16], p: usize, table: &mut [u32]) -> bool
+// Visits the rules of word w of a row.
+fn visit_word(words: &[u16], places: &[u16], rules: u64, w: usize, table: &mut [u32]) -> u64
+    requires { ⌜ Ready (now words) (now places) ⌝ }
+    requires { ⌜ RulesOf (now words) rules w ⌝ }
+    requires { ⌜ Held (now words) (now table) ⌝ }
+    ensures { λ r. ⌜ Revised (now (words .entry)) (InWord rules w) (now (table .entry)) (now (table .exit)) r ⌝ }
+{
+    let mut rest = rules;
+    let mut fallen = 0;
+    while 0 < rest {
+        let i = sets::least(rest);
+        let more = visit(words, places, 64 * w + i as usize, table);
+        fallen = sets::union(fallen, more);
+        rest = sets::without(rest, i);
+    }
+    fallen
+}
+
+// The left side of rule p costs no more than its right side, and where it costs as much, its rule is no higher than p. Gives the left side
+// where its cost falls.
+fn visit(words: &[u16], places: &[u16], p: usize, table: &mut [u32]) -> u64
     requires { ⌜ Ready (now words) (now places) ⌝ }
     requires { ⌜ p < ruleCount (now words) ⌝ }
     requires { ⌜ Held (now words) (now table) ⌝ }
-    ensures { λ r. ⌜ Visited (now (words .entry)) p (now (table .entry)) (now (table .exit)) r ⌝ }
+    ensures { λ r. ⌜ Revised (now (words .entry)) (λ q. q ≡ p) (now (table .entry)) (now (table .exit)) r ⌝ }
 {
-    let sum = rule_cost(words, places, p, table);
-    let k = shape::left_of(words, places, p) as usize;
-    let cost = table[64 + k];
+    let sum = capped(rule_cost(words, places, p, table));
+    let k = shape::left_of(words, places, p);
+    let at = 64 + k as usize;
+    let cost = table[at];
+    if stays(cost, table[64 + at], sum, p as u32) {
+        return 0;
+    }
+    table[at] = sum;
+    table[64 + at] = known(sum, p as u32);
+    fell(cost, sum, k)
+}
+
+// The sum as the table holds it.
+fn capped(sum: u32) -> u32
+    ensures { λ r. ⌜ Capped sum r ⌝ }
+{
+    if sum < OVER {
+        return sum;
+    }
+    if sum < NONE {
+        return OVER;
+    }
+    NONE
+}
+
+// Rule p, whose right side costs the sum, changes neither the cost nor the rule of its left side.
+fn stays(cost: u32, rule: u32, sum: u32, p: u32) -> bool
+    ensures { λ r. ⌜ Chosen cost rule sum p r ⌝ }
+{
     if cost < sum {
+        return true;
+    }
+    if sum < cost {
         return false;
     }
     if OVER <= sum {
-        return false;
+        return true;
     }
-    table[64 + k] = sum;
-    table[128 + k] = p as u32;
-    sum < cost
+    rule <= p
+}
+
+// The rule of a known cost; one above has none.
+fn known(sum: u32, p: u32) -> u32
+    ensures { λ r. ⌜ Known sum p r ⌝ }
+{
+    if sum < OVER {
+        return p;
+    }
+    0
+}
+
+// Nonterminal k where its cost falls.
+fn fell(cost: u32, sum: u32, k: u16) -> u64
+    requires { ⌜ k < 64 ⌝ }
+    ensures { λ r. ⌜ Fell cost sum k r ⌝ }
+{
+    if sum < cost {
+        return sets::with(0, k);
+    }
+    0
 }
 
 // The sum over rule p's right side, from its end. Eight costs are far below 2 ^ 32.

@@ -15,7 +15,7 @@ use native.Mathlib.Omega.{arith}
 use native.Mathlib.Nat.{pow-suc, div-one, zero-div, div-add-mod', mod-lt, zero-lt-suc, div-div-eq-div-mul, mul-comm}
 use lib.Dec.{eqb}
 use lib.Arith.{digits-mod}
-use lib.Bits.{bitOr, bitAnd, or-shr, or-step, or-add-and, or-zero-r, and-le-r, and-shr, and-step}
+use lib.Bits.{bitOr, bitAnd, or-shr, or-step, or-add-and, or-zero-r, and-le-l, and-le-r, and-shr, and-step}
 use borrow.Author.Tests.{eqb-true, eq-eqb}
 use Rattle.sets.specs.Bits.{member}
 use Rattle.sets.specs.Operations.{with, union, Shared}
@@ -131,6 +131,10 @@ with-cases s i j m = which s i j (union-cases s (2 ^ i) j m)
 pub union-grows : (a b : ℕ) → a ≤ union a b
 unfolding union
 union-grows a b = omega (arith, or-add-and a b, and-le-r a b)
+
+pub union-grows-right : (a b : ℕ) → b ≤ union a b
+unfolding union
+union-grows-right a b = omega (arith, or-add-and a b, and-le-l a b)
 
 pub with-grows : (s i : ℕ) → s ≤ with s i
 unfolding with union
