@@ -3,3 +3,4 @@ pub mod Held
 pub mod Visiting
 pub mod Settled
 pub mod OnlyCosts
+pub mod Empty

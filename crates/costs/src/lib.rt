@@ -7,11 +7,14 @@ ghost use Prim.Native.Nat.{_+_, _*_, _<_};
 ghost use mathlib.Core.Bool.{true};
 ghost use lib.ListN.{length};
 ghost use Rattle.sets.specs.Bits.{member};
-ghost use Rattle.grammar.specs.Words.{Shaped, rightSide, ruleCount};
+ghost use Rattle.grammar.specs.Grammar.{RuleOf};
+ghost use Rattle.grammar.specs.Words.{Shaped, nonterminalCount, rightSide, ruleCount};
+ghost use Rattle.grammar.specs.theory.Masks.{NullMask};
 ghost use Rattle.grammar.specs.theory.Closed.{total};
 ghost use Rattle.shape.specs.Ready.{Ready};
 ghost use Rattle.mentions.specs.Mentions.{InRow, MentionsOf};
 ghost use Rattle.costs.specs.Costed.{Costed};
+ghost use Rattle.costs.specs.Empty.{Freed};
 ghost use Rattle.costs.specs.Held.{Begun, Cleared, Fresh, Held, Limited, entry};
 ghost use Rattle.costs.specs.Visiting.{Capped, Chosen, Fell, InWord, Known, Revised, RulesOf};
 
@@ -36,6 +39,33 @@ pub fn costs(words: &[u16], places: &[u16], mentions: &[u64], table: &mut [u32])
         let fallen = visit_row(words, places, mentions, k as usize, table);
         list = sets::union(sets::without(list, k), fallen);
     }
+}
+
+// The nonterminals that can be empty: those that cost nothing, since every terminal of a right side costs at least 1.
+pub fn empties(words: &[u16], table: &[u32]) -> u64
+    requires { ⌜ Shaped (now words) ⌝ }
+    requires { ⌜ Costed (now words) (now table) ⌝ }
+    ensures { λ r. ⌜ NullMask (RuleOf (now (words .entry))) (nonterminalCount (now (words .entry))) r ⌝ }
+{
+    let count = shape::nonterminal_count(words);
+    let mut mask = 0;
+    let mut k = 0;
+    while k < count {
+        mask = freed(mask, k as u16, table[64 + k]);
+        k += 1;
+    }
+    mask
+}
+
+// The mask, and k where it costs nothing.
+fn freed(mask: u64, k: u16, cost: u32) -> u64
+    requires { ⌜ k < 64 ⌝ }
+    ensures { λ r. ⌜ Freed mask k cost r ⌝ }
+{
+    if cost == 0 {
+        return sets::with(mask, k);
+    }
+    mask
 }
 
 // ---- The first costs

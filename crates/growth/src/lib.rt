@@ -5,6 +5,7 @@ ghost use mathlib.Core.Bool.{_||_};
 ghost use Prim.Native.Nat.{_<_};
 ghost use lib.ListN.{length};
 ghost use Rattle.growth.specs.Added.{Added};
+ghost use Rattle.growth.specs.Along.{Reached};
 ghost use Rattle.growth.specs.Closing.{Closing, Fed, Listed, Noted};
 
 // Adds the members of the mask to set k, and answers whether one of them was not there.
@@ -66,4 +67,22 @@ fn note(s: u64, i: u16, yes: bool) -> u64
     ensures { λ r. ⌜ Noted s i yes r ⌝ }
 {
     if yes { sets::with(s, i) } else { s }
+}
+
+// The numbers that 0 comes to, where from k there is a step to each of `feeds[k]`. Those that are reached and not done are the list.
+pub fn reach(feeds: &[u64]) -> u64
+    requires { ⌜ length (now feeds) ≡ 64 ⌝ }
+    ensures { λ r. ⌜ Reached (now (feeds .entry)) r ⌝ }
+{
+    let mut reached = sets::with(0, 0);
+    let mut done: u64 = 0;
+    loop {
+        let rest = sets::beyond(reached, done);
+        if rest == 0 {
+            return reached;
+        }
+        let k = sets::least(rest);
+        reached = sets::union(reached, feeds[k as usize]);
+        done = sets::with(done, k);
+    }
 }

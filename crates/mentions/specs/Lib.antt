@@ -1,3 +1,4 @@
 pub mod Mentions
 pub mod Putting
 pub mod Gathering
+pub mod Reaching

@@ -2,20 +2,21 @@
 use Prim.Native.Nat.{ℕ, _+_, _≤_, _<_}
 use mathlib.Core.Path.{_≡_, refl, sym, ap, _∙_, subst}
 use mathlib.Core.Bool.{Bool}
-use mathlib.Core.List.{List}
+use mathlib.Core.List.{List, [], _∷_}
 use mathlib.Core.Option.{Option, none, some}
 use native.Mathlib.Omega.{arith}
 use lib.ListN.{length, getD}
 use borrow.Rule.Slice.PartMut.{putMid}
-use Rattle.grammar.specs.Words.{Shaped, terminalCount, nonterminalCount, ruleCount, insertCost}
-use Rattle.grammar.specs.Derivation.{NoneShared}
+use Rattle.grammar.specs.Words.{START, Shaped, terminalCount, nonterminalCount, ruleCount, insertCost}
+use Rattle.grammar.specs.Derivation.{NoneShared, Reachable}
 use Rattle.grammar.specs.Cost.{SymbolCost, CheapestRule}
-use Rattle.grammar.specs.Grammar.{RuleOf, Verdict, grammarOf, startOverEnd}
+use Rattle.grammar.specs.Grammar.{RuleOf, EachNonterminal, Verdict, grammarOf, startOverEnd}
 use Rattle.grammar.specs.theory.Conditions.{lowest-unique}
 use Rattle.grammar.specs.theory.Tables.{Inner, Shared, Pushes}
 use Rattle.grammar.specs.declared.Refusal.{Refusal}
 use Rattle.base.specs.Telling.{Tells}
 use Rattle.shape.specs.Ready.{Ready}
+use Rattle.mentions.specs.Mentions.{MentionsOf}
 use Rattle.costs.specs.Costed.{Costed}
 use Rattle.firsts.specs.Masks.{FirstsOf}
 use Rattle.verdict.specs.Parts.{part-length, inside-part, before-part}
@@ -29,10 +30,10 @@ abbrev pub checkOf : Checked → Option Refusal
 checkOf Accepted = none
 checkOf (Refused r) = some r
 
--- The table of costs is filled, and r tells whether no entry is over 60,000.
-pub record Afforded (ws l : List ℕ) (r : Bool) : Type 0 where
-  pub costed : Costed ws l
-  pub tells : Tells (Limited ws l) r
+-- The table of which rules mention a nonterminal is filled, and r tells whether every nonterminal is reachable.
+pub record Reaching (ws mentions : List ℕ) (r : Bool) : Type 0 where
+  pub gathered : MentionsOf ws mentions
+  pub tells : Tells (EachNonterminal ws (Reachable (RuleOf ws) (START ∷ []))) r
 
 -- The table of FIRST is filled, and r tells whether no two rules of one nonterminal share a predict token.
 pub record Predicted (ws l : List ℕ) (r : Bool) : Type 0 where

@@ -4,39 +4,45 @@
 --     limits-*                   the limits, terminal by terminal
 use Prim.Native.Nat.{ℕ, zero, suc, _+_, _-_, _≤_, _<_}
 use mathlib.Core.Path.{_≡_, refl, sym, _∙_, subst}
-use mathlib.Core.Bool.{Bool, true, false}
 use mathlib.Core.List.{List}
-use mathlib.Core.Logic.{_↔_}
+use mathlib.Core.Logic.{_↔_, ⊎-elim}
 use native.Mathlib.Omega.{arith}
 use lib.ListN.{length, getD, set, length-set}
-use lib.Dec.{ltb}
-use borrow.Author.Tests.{ltb-true, ltb-false}
+use Rattle.base.specs.Choices.{below-or}
 use Rattle.grammar.specs.Words.{terminalCount, nonterminalCount, insertCost, reliability, Shaped}
+use Rattle.grammar.specs.Derivation.{Productive}
 use Rattle.grammar.specs.Cost.{SymbolCost, Cheapest, CheapestRule}
 use Rattle.grammar.specs.Grammar.{RuleOf, Affordable, Reliable, EachNonterminal}
 use Rattle.grammar.specs.theory.Tables.{Inner}
 use Rattle.costs.specs.Costed.{Costed}
 use Rattle.verdict.specs.Parts.{each-entry}
 
--- ---- Refusal 8
+-- ---- Refusals 7 and 8
 
--- No nonterminal's entry is over 60,000.
+-- No nonterminal's entry is over the limit.
+abbrev pub Within : List ℕ → ℕ → List ℕ → Type 0
+Within ws limit l = (k : ℕ) → k < nonterminalCount ws → getD l (64 + k) 0 ≤ limit
+
 abbrev pub Limited : List ℕ → List ℕ → Type 0
-Limited ws l = (k : ℕ) → k < nonterminalCount ws → getD l (64 + k) 0 ≤ 60000
+Limited ws l = Within ws 60000 l
+
+pub productive-all : {ws l : List ℕ} → Costed ws l → Within ws 60001 l → EachNonterminal ws (Productive (RuleOf ws))
+productive-all c f k h = c .productive k h (f k h)
+
+pub productive-none : {ws l : List ℕ} → Costed ws l → EachNonterminal ws (Productive (RuleOf ws)) → Within ws 60001 l
+productive-none {l = l} c f k h =
+    ⊎-elim (λ over. absurd (c .barren k h over (f k h))) (λ most. most) (below-or 60001 (getD l (64 + k) 0))
 
 pub afford-all : {ws l : List ℕ} → Costed ws l → Limited ws l → EachNonterminal ws (Affordable ws)
 afford-all {l = l} c f k h = record { cost = getD l (64 + k) 0; cheapest = c .exact k h (f k h) .cheapest; limit = f k h }
 
 pub afford-none : {ws l : List ℕ} → Costed ws l → EachNonterminal ws (Affordable ws) → Limited ws l
-afford-none {ws} {l} c f k h = at (ltb 60000 (getD l (64 + k) 0)) refl
-  where
-    at : (b : Bool) → ltb 60000 (getD l (64 + k) 0) ≡ b → getD l (64 + k) 0 ≤ 60000
-    at true e =
-        let a = f k h in
-        let string = a .cheapest .string in
-        let over = c .over k h (ltb-true 60000 (getD l (64 + k) 0) e) string (a .cheapest .yields) in
-        absurd (omega (arith, a .cheapest .costs, a .limit))
-    at false e = ltb-false 60000 (getD l (64 + k) 0) e
+afford-none {ws} {l} c f k h =
+    let a = f k h in
+    ⊎-elim
+    (λ over. absurd (omega (arith, a .cheapest .costs, a .limit, c .over k h over (a .cheapest .string) (a .cheapest .yields))))
+    (λ most. most)
+    (below-or 60000 (getD l (64 + k) 0))
 
 -- ---- The cost of each symbol
 

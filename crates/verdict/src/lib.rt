@@ -1,29 +1,29 @@
 // The grammar check: the verdict 5 to 9, and the tables that a parser needs.
 ghost use mathlib.Core.Path.{_≡_};
 ghost use mathlib.Core.Bool.{true};
-ghost use mathlib.Core.List.{[], _∷_};
 ghost use Prim.Native.Nat.{ℕ, _<_};
 ghost use lib.ListN.{length};
-ghost use Rattle.grammar.specs.Words.{END, START, Shaped, nonterminalCount, terminalCount};
-ghost use Rattle.grammar.specs.Derivation.{NoneShared, Productive, Reachable};
-ghost use Rattle.grammar.specs.Grammar.{RuleOf, Verdict, EachNonterminal, startOverEnd};
+ghost use Rattle.grammar.specs.Words.{Shaped, nonterminalCount, terminalCount};
+ghost use Rattle.grammar.specs.Derivation.{NoneShared};
+ghost use Rattle.grammar.specs.Grammar.{RuleOf, Verdict, startOverEnd};
 ghost use Rattle.sets.specs.Bits.{member};
 ghost use Rattle.base.specs.Telling.{Tells};
 ghost use Rattle.shape.specs.Ready.{Ready};
+ghost use Rattle.mentions.specs.Mentions.{Blank};
 ghost use Rattle.costs.specs.Costed.{Costed};
 ghost use Rattle.firsts.specs.Asked.{Asked};
 ghost use Rattle.firsts.specs.Masks.{FirstsOf};
 ghost use Rattle.follows.specs.Follows.{Reached};
 ghost use Rattle.verdict.specs.Answer.{
-  Afforded,
   Judged,
   Predicted,
   PricedAs,
+  Reaching,
   Sizes,
   Tabled,
   checkOf,
 };
-ghost use Rattle.verdict.specs.Prices.{Limited, Limits};
+ghost use Rattle.verdict.specs.Prices.{Limits, Within};
 use grammar::Refusal;
 
 mod rows;
@@ -88,16 +88,18 @@ fn judge(words: &[u16], places: &mut [u16; 256], costs: &mut [u32], sets: &mut [
     if shape::shape(words, places) {} else {
         return Checked::Refused(Refusal::BadShape);
     }
-    if reachable(words, places) {} else {
+    let mut mentions = [0u64; 260];
+    if reachable(words, places, &mut mentions) {} else {
         return Checked::Refused(Refusal::Unreachable);
     }
-    if productive(words, places) {} else {
+    costs::costs(words, places, &mentions, costs);
+    if within(words, costs, 60001) {} else {
         return Checked::Refused(Refusal::NoString);
     }
-    if affordable(words, places, costs) {} else {
+    if within(words, costs, 60000) {} else {
         return Checked::Refused(Refusal::TooCostly);
     }
-    let null = masks::empties(words, places);
+    let null = costs::empties(words, costs);
     if predictable(words, places, null, &mut sets[0..64]) {} else {
         return Checked::Refused(Refusal::SharedPredict);
     }
@@ -105,22 +107,17 @@ fn judge(words: &[u16], places: &mut [u16; 256], costs: &mut [u32], sets: &mut [
     Checked::Accepted
 }
 
-// ---- Refusals 6 and 7
+// ---- Refusals 6, 7 and 8
 
-// Every nonterminal is reachable from START.
-fn reachable(words: &[u16], places: &[u16]) -> bool
+// Every nonterminal is reachable from START. Fills the table of which rules mention a nonterminal, which the costs go by too.
+fn reachable(words: &[u16], places: &[u16], mentions: &mut [u64]) -> bool
     requires { ⌜ Ready (now words) (now places) ⌝ }
-    ensures { λ r. ⌜ Tells (EachNonterminal (now (words .entry)) (Reachable (RuleOf (now (words .entry))) (START ∷ []))) r ⌝ }
+    requires { ⌜ Blank 260 (now mentions) ⌝ }
+    ensures { λ r. ⌜ Reaching (now (words .entry)) (now (mentions .exit)) r ⌝ }
 {
-    covers(words, masks::reachables(words, places))
-}
-
-// Every nonterminal derives some terminal string.
-fn productive(words: &[u16], places: &[u16]) -> bool
-    requires { ⌜ Ready (now words) (now places) ⌝ }
-    ensures { λ r. ⌜ Tells (EachNonterminal (now (words .entry)) (Productive (RuleOf (now (words .entry))))) r ⌝ }
-{
-    covers(words, masks::productives(words, places))
+    let mut uses = [0u64; 64];
+    mentions::gather(words, places, mentions, &mut uses);
+    covers(words, growth::reach(&uses))
 }
 
 // Every nonterminal is in the set.
@@ -139,28 +136,16 @@ fn covers(words: &[u16], mask: u64) -> bool
     true
 }
 
-// ---- Refusal 8
-
-// No nonterminal costs more than 60,000. Fills the table of costs and cheapest rules.
-fn affordable(words: &[u16], places: &[u16], costs: &mut [u32]) -> bool
-    requires { ⌜ Ready (now words) (now places) ⌝ }
-    requires { ⌜ length (now costs) ≡ 192 ⌝ }
-    ensures { λ r. ⌜ Afforded (now (words .entry)) (now (costs .exit)) r ⌝ }
-{
-    costs::costs(words, places, costs);
-    within_limit(words, costs)
-}
-
-// No nonterminal's entry is over 60,000.
-fn within_limit(words: &[u16], costs: &[u32]) -> bool
+// No nonterminal's cost is over the limit.
+fn within(words: &[u16], costs: &[u32], limit: u32) -> bool
     requires { ⌜ Shaped (now words) ⌝ }
     requires { ⌜ Costed (now words) (now costs) ⌝ }
-    ensures { λ r. ⌜ Tells (Limited (now (words .entry)) (now (costs .entry))) r ⌝ }
+    ensures { λ r. ⌜ Tells (Within (now (words .entry)) limit (now (costs .entry))) r ⌝ }
 {
     let count = shape::nonterminal_count(words);
     let mut k = 0;
     while k < count {
-        if costs[64 + k] > 60000 {
+        if costs[64 + k] > limit {
             return false;
         }
         k += 1;

@@ -1,18 +1,18 @@
--- `verdict::within_limit` meets its contract: the entries in front of k are at most 60,000.
+-- `verdict::within` meets its contract: the entries in front of k are at most the limit.
 use borrow.Author.Needs.{needs}
 use native.Mathlib.Omega.{arith}
 use Prim.Native.Nat.{ℕ, _+_, _<_, _≤_, _-_}
 use borrow.Author.Count.{below-more}
 use lib.ListN.{getD}
 use Rattle.base.specs.Telling.{told, denied}
-use Rattle.verdict.proofs.within_limit.Statement.{statement}
-use Rattle.verdict.proofs.within_limit.Tie as tie
+use Rattle.verdict.proofs.within.Statement.{statement}
+use Rattle.verdict.proofs.within.Tie as tie
 
 abbrev Inv-loop : tie.InvT-loop
-Inv-loop words costs count k₀ k = (j : ℕ) → j < k → getD costs (64 + j) 0 ≤ 60000
+Inv-loop words costs limit count k₀ k = (j : ℕ) → j < k → getD costs (64 + j) 0 ≤ limit
 
 abbrev μ-loop : tie.MeasureT-loop
-μ-loop words costs count k₀ k = count - k
+μ-loop words costs limit count k₀ k = count - k
 
 -- In a turn, k is a nonterminal's number.
 low : (c : tie.In-loop Inv-loop μ-loop) → c .before .loop .k < 64
@@ -52,13 +52,13 @@ loop-again : tie.Need-loop-again Inv-loop μ-loop
 loop-again c =
     let start = c .before .before .before .before .before .before .before in
     let loop = c .before .before .before .loop in
-    below-more (λ j. getD (start .args .costs .now) (64 + j) 0 ≤ 60000) _ (loop .inv) (c .if1 .left)
+    below-more (λ j. getD (start .args .costs .now) (64 + j) 0 ≤ start .args .limit) _ (loop .inv) (c .if1 .left)
 
 returns-2 : tie.Need-returns-2 Inv-loop μ-loop
 returns-2 c = let n = c .before .before .nonterminal-count .ensures in told (λ k h. c .before .loop .inv k (omega arith))
 
-pub within-limit-spec : {M : Type 1} → statement M
-within-limit-spec =
+pub within-spec : {M : Type 1} → statement M
+within-spec =
     tie.close
     (tie.spec
     Inv-loop

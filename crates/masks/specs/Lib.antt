@@ -1,4 +1,0 @@
-pub mod Masks
-pub mod Growing
-pub mod Ending
-pub mod Reaching
