@@ -1,15 +1,17 @@
 -- Which answer is right, and what the buffers hold.
 --     copy-begins, copy-goes, copy-ends    entries of the table, copied one by one
 --     refuses, short, lists                the answers
-use Prim.Native.Nat.{ℕ, _+_, _≤_, _<_}
+use Prim.Native.Nat.{ℕ, _+_, _-_, _≤_, _<_}
 use native.Mathlib.Nat.{sub-zero}
 use native.Mathlib.Numerals.{add-one}
 use native.Mathlib.Omega.{arith}
 use mathlib.Core.Path.{_≡_, refl, sym, ap, ap₂, subst, subst₂, _∙_}
 use mathlib.Core.List.{List, [], _∷_, _++_}
 use mathlib.Core.Option.{none, some}
+use mathlib.Core.Logic.{⊎-elim}
 use lib.ListN.{length, getD, take, drop, set, replicate, length-set, length-drop}
 use lib.Seq.{length-take-le, take-suc, getD-drop, getD-take}
+use Rattle.base.specs.Choices.{below-or}
 use Rattle.base.specs.Written.{written, written-none, written-more}
 use Rattle.grammar.specs.Words.{nonterminalCount, insertCost}
 use Rattle.grammar.specs.Cost.{CheapestRule}
@@ -82,7 +84,15 @@ module _ {ws costs rules : List ℕ} (costRoom ruleRoom : ℕ) (costs-clear : co
 
 -- Every entry of the table is a word.
 pub table-words : {ws table : List ℕ} → Priced ws table → (i : ℕ) → getD table i 0 ≤ 65535
-table-words p i = omega (arith, p .costed .limit i)
+table-words {ws} {table} p i =
+    ⊎-elim (λ low. omega arith)
+    (λ top.
+    let at : 64 + (i - 64) ≡ i = omega (arith, top .0) in
+    ⊎-elim
+    (λ named. omega (arith, p .limited (i - 64) (omega (arith, top .0)), ap (λ n. getD table n 0) at))
+    (λ beyond. omega (arith, p .costed .beyond i beyond (top .1)))
+    (below-or i (64 + nonterminalCount ws)))
+    (p .costed .limit i)
 
 -- Buffers that were cleared are as long as they were.
 pub as-lent : {ws x u : List ℕ} {o : Outcome ℕ} {n m costRoom ruleRoom : ℕ} → n ≡ costRoom → m ≡ ruleRoom → DeskAnswer ws n m o x u
