@@ -16,7 +16,7 @@ ghost use Rattle.grammar.specs.File.{
 };
 ghost use Rattle.base.specs.Written.{begun, written};
 ghost use Rattle.grammar.specs.theory.Files.{CheckRight, blockWords};
-ghost use Rattle.file.specs.Answer.{UnusedZero, readingOf};
+ghost use Rattle.file.specs.Answer.{AllZero, UnusedZero, readingOf};
 use block::BLOCK_BYTES;
 use block::BLOCK_WORDS;
 use block::CHECK;
@@ -147,17 +147,27 @@ fn use_count_right(count: usize, k: usize, used: usize) -> bool
 // The words of block k behind the used ones.
 fn unused_zero(bytes: &[u8], k: usize, used: usize) -> bool
     requires { ⌜ k < blockCount (now bytes) ⌝ }
+    requires { ⌜ used ≤ 253 ⌝ }
     ensures { λ r. ⌜ Tells (UnusedZero (now (bytes .entry)) k used) r ⌝ }
 {
-    let start = BLOCK_BYTES * k + FIRST_WORD;
-    let mut i = used;
-    while i < BLOCK_WORDS {
-        if pair(bytes, start + 2 * i) != 0 {
-            return false;
-        }
+    let start = BLOCK_BYTES * k;
+    let from = start + FIRST_WORD + 2 * used;
+    let end = start + CHECK;
+    all_zero(&bytes[from..end])
+}
+
+// Every byte is zero. They are joined into one that is tested behind the loop: a loop that is never left early is compiled to take
+// many bytes at a time.
+fn all_zero(bytes: &[u8]) -> bool
+    ensures { λ r. ⌜ Tells (AllZero (now (bytes .entry))) r ⌝ }
+{
+    let mut all: u8 = 0;
+    let mut i = 0;
+    while i < bytes.len() {
+        all |= bytes[i];
         i += 1;
     }
-    true
+    all == 0
 }
 
 // ---- Refusal 4, and the words

@@ -2,7 +2,7 @@
 use native.Mathlib.Omega.{arith}
 use mathlib.Core.Path.{sym, _∙_}
 use borrow.Author.Needs.{needs}
-use Rattle.grammar.specs.theory.Files.{use-same}
+use Rattle.grammar.specs.theory.Files.{use-same, use-most}
 use Rattle.base.specs.Telling.{denied, tells-as}
 use Rattle.file.proofs.fields_right.Statement.{statement}
 use Rattle.file.proofs.fields_right.Tie as tie
@@ -35,7 +35,7 @@ returns-2 c =
     denied (λ right. c .before .use-count-right .ensures .no (c .if2 .left) (use-same (sym count) (sym used) (right .use-count)))
 
 unused-zero-requires : tie.Need-unused-zero-requires
-unused-zero-requires c κs = search needs
+unused-zero-requires c κs = (search needs, use-most (c .before .use-count-right .ensures .yes (c .if2 .taken)))
 
 returns-3 : tie.Need-returns-3
 returns-3 c =
