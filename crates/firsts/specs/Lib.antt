@@ -1,5 +1,7 @@
 pub mod Opens
 pub mod Masks
 pub mod Asked
+pub mod Corners
 pub mod Firsts
+pub mod Leading
 pub mod Walk

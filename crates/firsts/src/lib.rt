@@ -1,5 +1,6 @@
 // FIRST of each nonterminal and of each right side, as masks of tokens: exactly the sets by derivations.
-// Each right side is walked from its end, so that what is found so far is what stands behind the next symbol.
+// For the nonterminals each rule is visited once, and then a list has those whose set must be passed on (request (v)). For FIRST of a
+// right side it is walked from its end, so that what is found so far is what stands behind the next symbol.
 ghost use mathlib.Core.Path.{_≡_};
 ghost use mathlib.Core.List.{[], _∷_};
 ghost use Prim.Native.Nat.{_<_};
@@ -8,15 +9,17 @@ ghost use Rattle.grammar.specs.Words.{rightSide, ruleCount};
 ghost use Rattle.firsts.specs.Opens.{FirstWith};
 ghost use Rattle.firsts.specs.Masks.{FirstsOf};
 ghost use Rattle.firsts.specs.Asked.{Asked, RuleFirstsOf};
-ghost use Rattle.firsts.specs.Firsts.{RoundTurn, RuleTurn, SoundFirsts};
+ghost use Rattle.firsts.specs.Leading.{Begun, Led, RulesLed};
 
-// FIRST of each nonterminal.
+// FIRST of each nonterminal: the tokens that stand first in its right sides, and FIRST of each nonterminal that can stand first there.
 pub fn firsts(words: &[u16], places: &[u16], null: u64, out: &mut [u64])
     requires { ⌜ Asked (now words) (now places) null (now out) ⌝ }
     ensures { λ _. ⌜ FirstsOf (now (words .entry)) (now (out .exit)) ⌝ }
 {
+    let mut feeds = [0u64; 64];
     base::clear_numbers(out);
-    while round(words, places, null, out) {}
+    let list = begin(words, places, null, &mut feeds, out);
+    growth::close(&feeds, list, out);
 }
 
 // FIRST of each right side, from FIRST of each nonterminal.
@@ -74,30 +77,54 @@ pub fn pass(x: u16, null: u64, firsts: &[u64], behind: u64) -> u64
     own
 }
 
-// A pass over the rules, the last one first: what a rule uses mostly stands behind it.
-fn round(words: &[u16], places: &[u16], null: u64, out: &mut [u64]) -> bool
+// Every rule once: what can stand first in its right side is given to its left side. Gives the list of the nonterminals that feed one.
+fn begin(words: &[u16], places: &[u16], null: u64, feeds: &mut [u64], out: &mut [u64]) -> u64
     requires { ⌜ Asked (now words) (now places) null (now out) ⌝ }
-    requires { ⌜ SoundFirsts (now words) (now out) ⌝ }
-    ensures { λ r. ⌜ RoundTurn (now (words .entry)) null (now (out .entry)) (now (out .exit)) r ⌝ }
+    requires { ⌜ Begun (now words) (now feeds) (now out) 0 ⌝ }
+    ensures { λ r. ⌜ RulesLed (now (words .entry)) null (ruleCount (now (words .entry))) (now (feeds .exit)) (now (out .exit)) r ⌝ }
 {
-    let mut changed = false;
-    let mut p = shape::rule_count(words);
-    while p > 0 {
-        p -= 1;
-        let more = add_rule(words, places, null, out, p);
-        changed = growth::either(more, changed);
+    let count = shape::rule_count(words);
+    let mut list = 0;
+    let mut p = 0;
+    while p < count {
+        list = lead(words, places, null, p, list, feeds, out);
+        p += 1;
     }
-    changed
+    list
 }
 
-// Adds to the left side of rule p the tokens that begin its right side.
-fn add_rule(words: &[u16], places: &[u16], null: u64, out: &mut [u64], p: usize) -> bool
+// Rule p, from its front to the first symbol that cannot be empty: a token goes to the left side's set, a nonterminal feeds the left side
+// and goes on the list.
+fn lead(
+    words: &[u16],
+    places: &[u16],
+    null: u64,
+    p: usize,
+    list: u64,
+    feeds: &mut [u64],
+    out: &mut [u64],
+) -> u64
     requires { ⌜ Asked (now words) (now places) null (now out) ⌝ }
     requires { ⌜ p < ruleCount (now words) ⌝ }
-    requires { ⌜ SoundFirsts (now words) (now out) ⌝ }
-    ensures { λ r. ⌜ RuleTurn (now (words .entry)) null p (now (out .entry)) (now (out .exit)) r ⌝ }
+    requires { ⌜ Begun (now words) (now feeds) (now out) list ⌝ }
+    ensures { λ r. ⌜ Led (now (words .entry)) null p (now (feeds .entry)) (now (out .entry)) (now (feeds .exit)) (now (out .exit)) r ⌝ }
 {
-    let mask = first_with(words, places, null, out, p, 0);
     let k = shape::left_of(words, places, p);
-    growth::add_to(out, k as usize, mask)
+    let size = shape::size_of(words, places, p);
+    let mut list = list;
+    let mut i = 0;
+    while i < size {
+        let x = shape::symbol_at(words, places, p, i);
+        if x < 64 {
+            growth::add_to(out, k as usize, sets::with(0, x));
+            return list;
+        }
+        growth::add_to(feeds, (x - 64) as usize, sets::with(0, k));
+        list = sets::with(list, x - 64);
+        if sets::has(null, x - 64) {} else {
+            return list;
+        }
+        i += 1;
+    }
+    list
 }

@@ -3,6 +3,7 @@
 --     feed-begins, feed-goes, feed-ends      one set is passed on to those that it feeds
 --     close-begins, close-goes, close-ends   the list: what is not on it is passed on already
 --     close-less                             it ends: a set that goes on it has grown
+--     closing-has                            what is so of all that is there at first and is passed on is so of all that comes
 --     closing-one                            the answer is one
 use Prim.Native.Nat.{ℕ, _+_, _-_, _*_, _^_, _≤_, _<_}
 use mathlib.Core.Path.{_≡_, refl, sym, ap, _∙_, subst}
@@ -29,6 +30,17 @@ pub data Comes (feeds begun : List ℕ) (t : ℕ) : ℕ → Type 0 where
 pub record Closing (feeds begun sets : List ℕ) : Type 0 where
   pub size : length sets ≡ 64
   pub exact : (k t : ℕ) → (member (getD sets k 0) t ≡ true) ↔ Comes feeds begun t k
+
+-- What is so of all that is there at first and is passed on is so of all that comes.
+pub closing-has : {feeds begun sets : List ℕ} (P : ℕ → ℕ → Type 0) → Closing feeds begun sets
+    → ((k t : ℕ) → member (getD begun k 0) t ≡ true → P k t)
+    → ((j k t : ℕ) → member (getD feeds j 0) k ≡ true → P j t → P k t)
+    → (k t : ℕ) → member (getD sets k 0) t ≡ true → P k t
+closing-has {feeds} {begun} P closing first next k t m = all k t (closing .exact k t .0 m)
+  where
+    all : (k t : ℕ) → Comes feeds begun t k → P k t
+    all k t (Comes.here h) = first k t h
+    all k t (Comes.onward {j = j} c h) = next j k t h (all j t c)
 
 -- Every set that feeds one is on the list.
 abbrev pub Listed : List ℕ → ℕ → Type 0
