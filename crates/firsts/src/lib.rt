@@ -9,7 +9,7 @@ ghost use Rattle.grammar.specs.Words.{rightSide, ruleCount};
 ghost use Rattle.firsts.specs.Opens.{FirstWith};
 ghost use Rattle.firsts.specs.Masks.{FirstsOf};
 ghost use Rattle.firsts.specs.Asked.{Asked, RuleFirstsOf};
-ghost use Rattle.firsts.specs.Leading.{Begun, Led, RulesLed};
+ghost use Rattle.firsts.specs.Begun.{AllLed, Begun, Led};
 
 // FIRST of each nonterminal: the tokens that stand first in its right sides, and FIRST of each nonterminal that can stand first there.
 pub fn firsts(words: &[u16], places: &[u16], null: u64, out: &mut [u64])
@@ -81,7 +81,7 @@ pub fn pass(x: u16, null: u64, firsts: &[u64], behind: u64) -> u64
 fn begin(words: &[u16], places: &[u16], null: u64, feeds: &mut [u64], out: &mut [u64]) -> u64
     requires { ⌜ Asked (now words) (now places) null (now out) ⌝ }
     requires { ⌜ Begun (now words) (now feeds) (now out) 0 ⌝ }
-    ensures { λ r. ⌜ RulesLed (now (words .entry)) null (ruleCount (now (words .entry))) (now (feeds .exit)) (now (out .exit)) r ⌝ }
+    ensures { λ r. ⌜ AllLed (now (words .entry)) null (now (feeds .exit)) (now (out .exit)) r ⌝ }
 {
     let count = shape::rule_count(words);
     let mut list = 0;

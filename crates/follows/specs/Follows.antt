@@ -1,7 +1,8 @@
--- FOLLOW by rounds, over START END, where every nonterminal is reachable: sound, complete, therefore exact.
+-- FOLLOW over START END, where every nonterminal is reachable, by sets that hold nothing else and are closed under the rules: sound,
+-- complete, therefore exact.
 use Prim.Native.Nat.{ℕ, _+_, _-_, _≤_, _<_}
 use mathlib.Core.Path.{_≡_, sym, subst}
-use mathlib.Core.Bool.{Bool, true}
+use mathlib.Core.Bool.{true}
 use mathlib.Core.List.{List, [], _∷_}
 use mathlib.Core.Logic.{_⊎_, _↔_, inl, inr, ⊎-elim}
 use native.Mathlib.Omega.{arith}
@@ -14,8 +15,6 @@ use Rattle.grammar.specs.theory.Leftmost.{to-der}
 use Rattle.grammar.specs.theory.Closed.{ClosedFollow, closed-follow, Followed, followed-at, Begins}
 use Rattle.grammar.specs.theory.RightSides.{right-symbols, rule-left}
 use Rattle.sets.specs.Bits.{member}
-use Rattle.growth.specs.Sums.{sum}
-use Rattle.growth.specs.Turns.{Turn}
 use Rattle.grammar.specs.theory.Firsts.{Fades, Starts, all-empty, begins-first, empty-closed, first-closed, first-self, terminal-first}
 use Rattle.firsts.specs.Opens.{Opens}
 use Rattle.firsts.specs.Masks.{FirstsOf, opens-exact}
@@ -53,13 +52,6 @@ pub data Fed (null : ℕ) (firsts : List ℕ) (base t : ℕ) (l : List ℕ) : Li
 -- The right side of rule p is fed, with what follows its left side behind it.
 abbrev pub ClosedFollows : List ℕ → ℕ → List ℕ → ℕ → List ℕ → Type 0
 ClosedFollows ws null firsts p l = (k t : ℕ) → leftSide ws p ≡ 64 + k → Fed null firsts (getD l k 0) t l (rightSide ws p)
-
--- What a rule, and what a round over all rules, does to the table.
-abbrev pub RuleTurn : List ℕ → ℕ → List ℕ → ℕ → List ℕ → List ℕ → Bool → Type 0
-RuleTurn ws null firsts p = Turn (SoundFollows ws) (ClosedFollows ws null firsts p) sum
-
-abbrev pub RoundTurn : List ℕ → ℕ → List ℕ → List ℕ → List ℕ → Bool → Type 0
-RoundTurn ws null firsts = Turn (SoundFollows ws) (λ l. (p : ℕ) → p < ruleCount ws → ClosedFollows ws null firsts p l) sum
 
 -- ---- Complete
 

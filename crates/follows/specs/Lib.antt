@@ -1,2 +1,4 @@
 pub mod Follows
 pub mod Feeding
+pub mod Lasts
+pub mod Begun

@@ -1,75 +1,103 @@
 // FOLLOW of each nonterminal over START END, as masks of tokens: exactly the sets by derivations, where every nonterminal
-// is reachable. END is in FOLLOW(START).
+// is reachable. END is in FOLLOW(START). Each rule is visited once, and then a list has the nonterminals whose set must be passed on
+// (request (v)).
 ghost use mathlib.Core.Path.{_≡_};
 ghost use Prim.Native.Nat.{_<_};
 ghost use lib.ListN.{length};
-ghost use Rattle.grammar.specs.Words.{ruleCount};
-ghost use Rattle.follows.specs.Follows.{FollowsOf, Needed, RoundTurn, RuleTurn, SoundFollows};
-ghost use Rattle.follows.specs.Feeding.{AddedBehind};
+ghost use Rattle.grammar.specs.Words.{rightSide, ruleCount};
+ghost use Rattle.shape.specs.Ready.{Ready};
+ghost use Rattle.follows.specs.Follows.{FollowsOf, Needed, SoundFollows};
+ghost use Rattle.follows.specs.Feeding.{AddedBehind, Tailed};
+ghost use Rattle.follows.specs.Lasts.{LastsOf};
+ghost use Rattle.follows.specs.Begun.{AllFed, Begun};
 
-// FOLLOW of each nonterminal.
+// FOLLOW of each nonterminal: what begins the rest behind it in a right side, and FOLLOW of the left side where it can stand last there.
 pub fn follows(words: &[u16], places: &[u16], null: u64, firsts: &[u64], out: &mut [u64])
     requires { ⌜ Needed (now words) (now places) null (now firsts) (now out) ⌝ }
     ensures { λ _. ⌜ FollowsOf (now (words .entry)) (now (out .exit)) ⌝ }
 {
+    let mut feeds = [0u64; 64];
     base::clear_numbers(out);
     growth::add_to(out, 0, sets::with(0, 0));
-    while round(words, places, null, firsts, out) {}
+    let list = begin(words, places, null, firsts, &mut feeds, out);
+    growth::close(&feeds, list, out);
 }
 
-// A pass over the rules, the first one first: what follows a left side goes to the rules behind it.
-fn round(words: &[u16], places: &[u16], null: u64, firsts: &[u64], out: &mut [u64]) -> bool
-    requires { ⌜ Needed (now words) (now places) null (now firsts) (now out) ⌝ }
-    requires { ⌜ SoundFollows (now words) (now out) ⌝ }
-    ensures { λ r. ⌜ RoundTurn (now (words .entry)) null (now (firsts .entry)) (now (out .entry)) (now (out .exit)) r ⌝ }
-{
-    let count = shape::rule_count(words);
-    let mut changed = false;
-    let mut p = 0;
-    while p < count {
-        let more = add_rule(words, places, null, firsts, out, p);
-        changed = growth::either(more, changed);
-        p += 1;
-    }
-    changed
-}
-
-// Adds to each nonterminal of rule p's right side what stands behind it there.
-fn add_rule(
+// Every rule once: its nonterminals get what begins the rest behind them, and its left side feeds those that can stand last. Gives the
+// list of the left sides that feed one.
+fn begin(
     words: &[u16],
     places: &[u16],
     null: u64,
     firsts: &[u64],
+    feeds: &mut [u64],
     out: &mut [u64],
-    p: usize,
-) -> bool
+) -> u64
+    requires { ⌜ Needed (now words) (now places) null (now firsts) (now out) ⌝ }
+    requires { ⌜ Begun (now words) (now feeds) (now out) 0 ⌝ }
+    ensures { λ r. ⌜ AllFed (now (words .entry)) null (now (firsts .entry)) (now (feeds .exit)) (now (out .exit)) r ⌝ }
+{
+    let count = shape::rule_count(words);
+    let mut list = 0;
+    let mut p = 0;
+    while p < count {
+        add_rule(words, places, null, firsts, p, out);
+        let k = shape::left_of(words, places, p);
+        let last = last_of(words, places, null, p);
+        let more = growth::add_to(feeds, k as usize, last);
+        list = growth::note(list, k, more);
+        p += 1;
+    }
+    list
+}
+
+// Adds to each nonterminal of rule p's right side what begins the rest behind it there.
+fn add_rule(words: &[u16], places: &[u16], null: u64, firsts: &[u64], p: usize, out: &mut [u64])
     requires { ⌜ Needed (now words) (now places) null (now firsts) (now out) ⌝ }
     requires { ⌜ p < ruleCount (now words) ⌝ }
     requires { ⌜ SoundFollows (now words) (now out) ⌝ }
-    ensures { λ r. ⌜ RuleTurn (now (words .entry)) null (now (firsts .entry)) p (now (out .entry)) (now (out .exit)) r ⌝ }
+    ensures { λ _. ⌜ Tailed (now (words .entry)) null (now (firsts .entry)) p (now (out .entry)) (now (out .exit)) ⌝ }
 {
-    let k = shape::left_of(words, places, p);
-    let mut behind = out[k as usize];
-    let mut changed = false;
+    let mut behind = 0;
     let mut i = shape::size_of(words, places, p);
     while i > 0 {
         i -= 1;
         let x = shape::symbol_at(words, places, p, i);
-        let more = add_behind(out, x, behind);
-        changed = growth::either(more, changed);
+        add_behind(out, x, behind);
         behind = firsts::pass(x, null, firsts, behind);
     }
-    changed
 }
 
 // Adds the mask to the set of symbol x; a terminal has none.
-fn add_behind(out: &mut [u64], x: u16, mask: u64) -> bool
+fn add_behind(out: &mut [u64], x: u16, mask: u64)
     requires { ⌜ x < 128 ⌝ }
     requires { ⌜ length (now out) ≡ 64 ⌝ }
-    ensures { λ r. ⌜ AddedBehind (now (out .entry)) x mask (now (out .exit)) r ⌝ }
+    ensures { λ _. ⌜ AddedBehind (now (out .entry)) x mask (now (out .exit)) ⌝ }
 {
     if x < 64 {
-        return false;
+        return;
     }
-    growth::add_to(out, (x - 64) as usize, mask)
+    growth::add_to(out, (x - 64) as usize, mask);
+}
+
+// The nonterminals that can stand last in rule p: from its end to the first symbol that cannot be empty.
+fn last_of(words: &[u16], places: &[u16], null: u64, p: usize) -> u64
+    requires { ⌜ Ready (now words) (now places) ⌝ }
+    requires { ⌜ p < ruleCount (now words) ⌝ }
+    ensures { λ r. ⌜ LastsOf null (rightSide (now (words .entry)) p) r ⌝ }
+{
+    let mut last = 0;
+    let mut i = shape::size_of(words, places, p);
+    while i > 0 {
+        i -= 1;
+        let x = shape::symbol_at(words, places, p, i);
+        if x < 64 {
+            return last;
+        }
+        last = sets::with(last, x - 64);
+        if sets::has(null, x - 64) {} else {
+            return last;
+        }
+    }
+    last
 }

@@ -62,7 +62,7 @@ fn feed(fed: u64, mask: u64, sets: &mut [u64]) -> u64
 }
 
 // The set, and i where the answer is yes.
-fn note(s: u64, i: u16, yes: bool) -> u64
+pub fn note(s: u64, i: u16, yes: bool) -> u64
     requires { ⌜ i < 64 ⌝ }
     ensures { λ r. ⌜ Noted s i yes r ⌝ }
 {

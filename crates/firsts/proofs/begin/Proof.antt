@@ -3,7 +3,7 @@ use borrow.Author.Needs.{needs}
 use native.Mathlib.Omega.{arith}
 use Prim.Native.Nat.{_-_}
 use mathlib.Core.Path.{sym, _∙_}
-use Rattle.firsts.specs.Leading.{RulesLed, begin-none, begin-goes, begin-ends}
+use Rattle.firsts.specs.Begun.{RulesLed, begin-none, begin-goes, begin-ends}
 use Rattle.firsts.proofs.begin.Statement.{statement}
 use Rattle.firsts.proofs.begin.Tie as tie
 

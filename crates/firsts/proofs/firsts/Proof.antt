@@ -1,8 +1,7 @@
 -- `firsts::firsts` meets its contract: the pass begins with empty tables, and what comes of it along the list is FIRST (`begun-closed`).
-use native.Mathlib.Omega.{arith}
 use mathlib.Core.Path.{refl}
 use lib.ListN.{length}
-use Rattle.firsts.specs.Leading.{begin-begins, begun-closed}
+use Rattle.firsts.specs.Begun.{begin-begins, begun-closed}
 use borrow.Author.Needs.{needs}
 use Rattle.firsts.proofs.firsts.Statement.{statement}
 use Rattle.firsts.proofs.firsts.Tie as tie
@@ -31,10 +30,9 @@ same-length c = search needs
 
 returns : tie.Need-returns
 returns c =
-    let turn = c .before .before .before .before .before .before .before .before .before in
-    let start = turn .before .before .before .before .before .before .before .before .before in
-    let begin = c .before .before .before .before .before .before .before .before .begin in
-    begun-closed (start .pre) (begin .ensures) (c .before .before .close .ensures)
+    let begun = c .before .before .before .before .before .before .before .before in
+    let start = begun .before .before .before .before .before .before .before .before .before .before in
+    begun-closed (start .pre) (begun .begin .ensures) (c .before .before .close .ensures)
 
 pub firsts-spec : {M : Type 1} → statement M
 firsts-spec =

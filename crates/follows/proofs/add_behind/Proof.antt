@@ -6,7 +6,7 @@ use Rattle.follows.proofs.add_behind.Statement.{statement}
 use Rattle.follows.proofs.add_behind.Tie as tie
 
 returns : tie.Need-returns
-returns c = AddedBehind.terminal (c .if1 .taken) refl refl
+returns c = AddedBehind.terminal (c .if1 .taken) refl
 
 cast-add-to : tie.Need-cast-add-to
 cast-add-to c = search needs
@@ -18,7 +18,9 @@ same-length : tie.Need-same-length
 same-length c = search needs
 
 returns-2 : tie.Need-returns-2
-returns-2 c = AddedBehind.nonterminal (c .before .before .before .before .if1 .left) (c .before .before .add-to .ensures)
+returns-2 c =
+    let if1 = c .before .before .before .before .if1 in
+    AddedBehind.nonterminal (if1 .left) (c .before .before .add-to .ensures)
 
 pub add-behind-spec : {M : Type 1} → statement M
 add-behind-spec = tie.close (tie.spec returns cast-add-to add-to-requires same-length returns-2)

@@ -1,78 +1,57 @@
--- `follows::follows` meets its contract: sound in each round (`SoundFollows`), closed after the last, so exact. The measure is the
--- room left for the sum.
-use borrow.Author.Needs.{needs}
-use native.Mathlib.Omega.{arith}
-use Prim.Native.Nat.{ℕ, _^_, _*_, _-_}
-use mathlib.Core.Path.{sym, ap, _∙_}
-use lib.ListN.{length, length-replicate}
-use Rattle.growth.specs.Sums.{sum, sum-below}
-use Rattle.growth.specs.Turns.{turn-less}
-use Rattle.follows.specs.Follows.{SoundFollows, follows-exact}
+-- `follows::follows` meets its contract: the pass begins with END behind START, and what comes of it along the list is FOLLOW
+-- (`begun-closed`).
+use mathlib.Core.Path.{refl}
+use lib.ListN.{length}
 use Rattle.follows.specs.Feeding.{follows-begin}
+use Rattle.follows.specs.Begun.{begin-begins, begun-closed}
+use borrow.Author.Needs.{needs}
 use Rattle.follows.proofs.follows.Statement.{statement}
 use Rattle.follows.proofs.follows.Tie as tie
 
-abbrev Inv-loop : tie.InvT-loop
-Inv-loop words places null firsts out₀ out = SoundFollows words out
-
-abbrev μ-loop : tie.MeasureT-loop
-μ-loop words places null firsts out₀ out = 64 * 2 ^ 64 - sum out
-
-clear-numbers-requires : tie.Need-clear-numbers-requires Inv-loop μ-loop
+clear-numbers-requires : tie.Need-clear-numbers-requires
 clear-numbers-requires c κs = search needs
 
-with-requires : tie.Need-with-requires Inv-loop μ-loop
+with-requires : tie.Need-with-requires
 with-requires c κs = search needs
 
-add-to-requires : tie.Need-add-to-requires Inv-loop μ-loop
-add-to-requires c κs =
-    let start = c .before .before .before .before .before .before .before .before .before .before in
-    let clear = c .before .before .before .before .clear-numbers in
-    let size = start .pre .size in
-    omega (arith, ap length (clear .ensures), length-replicate {A = ℕ} (length (start .args .out .now)) 0)
+add-to-requires : tie.Need-add-to-requires
+add-to-requires c κs = search needs
 
-loop-holds : tie.Need-loop-holds Inv-loop μ-loop
-loop-holds c =
-    let start = c .before .before .before .before .before .before .before .before .before .before .before .before .before in
-    let clear = c .before .before .before .before .before .before .before .clear-numbers in
-    let single = c .before .before .before .with in
-    let add-to = c .before .before .add-to in
-    follows-begin (length (start .args .out .now)) (clear .ensures) (start .pre .size) (single .ensures) (add-to .ensures)
+slice-aggregate-begin : tie.Need-slice-aggregate-begin
+slice-aggregate-begin c = search needs
 
-round-requires : tie.Need-round-requires Inv-loop μ-loop
-round-requires c κs =
-    let turn = c .before .before .before .before .before .before .before .before .before .before in
-    let start = turn .before .before .before .before .before in
+begin-requires : tie.Need-begin-requires
+begin-requires c κs =
+    let cleared = c .before .before .before .before .before .before .before .before .before in
+    let start = cleared .before .before .before .before .before .before in
+    let clear-numbers = cleared .clear-numbers in
+    let single = c .before .before .before .before .before .with in
+    let add-to = c .before .before .before .before .add-to in
     let need = start .pre in
-    let inv = c .before .loop .inv in
-    (record { asked = need .asked; exact = need .exact; reached = need .reached; size = inv .size }, inv)
+    let zeros = clear-numbers .ensures in
+    let begun = follows-begin (length (start .args .out .now)) zeros (need .size) (single .ensures) (add-to .ensures) in (
+      record { asked = need .asked; exact = need .exact; reached = need .reached; size = begun .size },
+      begin-begins _ refl begun,
+    )
 
-loop-less : tie.Need-loop-less Inv-loop μ-loop
-loop-less c =
-    let round = c .before .before .before .round in
-    turn-less _ (round .ensures) (c .if1 .taken) (sum-below _ (round .ensures .sound .size) (c .before .slice-known4 .given))
+slice-aggregate-close : tie.Need-slice-aggregate-close
+slice-aggregate-close c = search needs
 
-loop-again : tie.Need-loop-again Inv-loop μ-loop
-loop-again c = c .before .before .before .round .ensures .sound
+close-requires : tie.Need-close-requires
+close-requires c κs = search needs
 
-same-length : tie.Need-same-length Inv-loop μ-loop
-same-length c =
-    let round = c .before .before .before .round in
-    let turn = c .before .before .before .before .before .before .before .before .before .before in
-    let start = turn .before .before .before .before .before .before .before .before .before in
-    round .ensures .sound .size ∙ sym (start .pre .size)
+same-length : tie.Need-same-length
+same-length c = search needs
 
-returns : tie.Need-returns Inv-loop μ-loop
+returns : tie.Need-returns
 returns c =
-    let turn = c .before .before .before .before .before .before .before .before .before .before in
-    let start = turn .before .before .before .before .before .before .before .before .before in
-    let round = c .before .before .before .round in
-    let asked = start .pre .asked in
-    follows-exact _ (asked .ready .shaped) _ (asked .nulls) _ (start .pre .exact) _ (round .ensures .closed (c .if1 .left))
-    (round .ensures .sound)
+    let begun = c .before .before .before .before .before .before .before .before in
+    let added = begun .before .before .before .before .before .before in
+    let start = added .before .before .before .before .before .before .before .before .before .before in
+    begun-closed (start .pre) (begun .begin .ensures) (c .before .before .close .ensures)
 
 pub follows-spec : {M : Type 1} → statement M
 follows-spec =
     tie.close
-    (tie.spec Inv-loop μ-loop clear-numbers-requires with-requires add-to-requires loop-holds round-requires loop-less loop-again
-    same-length returns)
+    (tie.spec clear-numbers-requires with-requires add-to-requires slice-aggregate-begin begin-requires slice-aggregate-close
+    close-requires same-length returns)
