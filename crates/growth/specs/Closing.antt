@@ -4,7 +4,7 @@
 --     close-begins, close-goes, close-ends   the list: what is not on it is passed on already
 --     close-less                             it ends: a set that goes on it has grown
 --     closing-has                            what is so of all that is there at first and is passed on is so of all that comes
---     closing-one                            the answer is one
+--     closing-one, noted-one                 the answer is one
 use Prim.Native.Nat.{ℕ, _+_, _-_, _*_, _^_, _≤_, _<_}
 use mathlib.Core.Path.{_≡_, refl, sym, ap, _∙_, subst}
 use mathlib.Core.Bool.{Bool, true, false}
@@ -50,6 +50,10 @@ Listed feeds list = (k j : ℕ) → member (getD feeds k 0) j ≡ true → membe
 pub record Noted (s i : ℕ) (yes : Bool) (r : ℕ) : Type 0 where
   pub noted : yes ≡ true → r ≡ with s i
   pub same : yes ≡ false → r ≡ s
+
+pub noted-one : {s i r q : ℕ} (yes : Bool) → Noted s i yes r → Noted s i yes q → r ≡ q
+noted-one true a b = a .noted refl ∙ sym (b .noted refl)
+noted-one false a b = a .same refl ∙ sym (b .same refl)
 
 -- ---- One set is passed on
 
