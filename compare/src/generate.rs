@@ -2,6 +2,7 @@
 //! grammar files, standard input, lists of words, texts and lent buffers. Equal seeds give equal inputs.
 
 pub mod buffers;
+pub mod chains;
 pub mod desk;
 pub mod draft;
 pub mod edges;

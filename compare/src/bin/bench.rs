@@ -10,7 +10,7 @@ use compare::answer::{
     MOST_WORDS,
 };
 use compare::generate::log::{self, Sampler};
-use compare::generate::{families, file, grammar, Draft, Random};
+use compare::generate::{chains, families, file, grammar, Draft, Random};
 use compare::implementations::{self, PLAIN, TUNED};
 use std::hint::black_box;
 use std::time::Instant;
@@ -25,6 +25,8 @@ const MOST_NONTERMINALS: usize = 64;
 /// the processor's branch prediction does not learn it by heart.
 const CALLS: u32 = 50;
 const ONCE: u32 = 1;
+/// How many grammars are between one lone call and the next.
+const OTHERS: usize = 4;
 
 fn main() {
     let seed = std::env::args().nth(1).and_then(|s| s.parse().ok());
@@ -55,6 +57,10 @@ fn main() {
     bench.depth();
     // Draws of its own too.
     bench.marks(&mut Random::new(seed.rotate_left(32)));
+    // And these.
+    let mut random = Random::new(seed.rotate_left(16));
+    bench.rounds(&mut random, &large);
+    bench.lone_calls(&mut random, &large);
 }
 
 /// A log with its ticks.
@@ -62,6 +68,9 @@ type Log = (Vec<u16>, Vec<u32>);
 
 /// The edit words and the rule words that a call is lent.
 type Lent = (Vec<u16>, Vec<u16>);
+
+/// The words of a grammar and a log, for a call that comes alone.
+type Lone = (Vec<u16>, Vec<u16>);
 
 /// As many as the printing program lends, with old content.
 fn lent() -> Lent {
@@ -86,6 +95,99 @@ impl Bench {
             let _ = black_box(column.check(black_box(words)));
         });
         self.costs_row(&draft.words());
+    }
+
+    /// The check where much is found late. In a chain "down", of 8 to 64 nonterminals, each rule mentions what
+    /// the next one makes known; "up" is the same chain in the opposite numbering, rules by left side. In a
+    /// "follow chain" all can be empty, and FOLLOW grows by a token at each nonterminal but the last few. At
+    /// last the large grammar with more rules, up to 256.
+    fn rounds(&self, random: &mut Random, large: &Draft) {
+        self.head("chains, and 256 rules: ns a call");
+        for n in [8, 16, 32, 64] {
+            self.check_row(&format!("check chain {n} down"), &chains::down(n));
+            self.check_row(&format!("check chain {n} up"), &chains::up(n));
+        }
+        let (down, up) = (chains::follow_down(64), chains::follow_up(64));
+        self.check_row("check follow chain 64 down", &down);
+        self.check_row("check follow chain 64 up", &up);
+        let mut full = large.clone();
+        grammar::fill_up(random, &mut full, 256);
+        self.check_row(&format!("check {} rules", full.rules.len()), &full);
+    }
+
+    /// The check of one accepted grammar, again and again.
+    fn check_row(&self, name: &str, draft: &Draft) {
+        let words = draft.words();
+        self.accept(&words);
+        self.row(name, &[words], (CALLS, 1.0), |column, words| {
+            let _ = black_box(column.check(black_box(words)));
+        });
+    }
+
+    /// Calls that come alone: one check of a grammar, and one parse of a correct log of 4,096 tokens, when the
+    /// processor has done other work since it last met that grammar, so that neither its branch prediction nor
+    /// its nearest caches know it. Each sample is one call. Before each, every column checks and parses
+    /// [`OTHERS`] large grammars, beginning with the column that is measured next, so that each has its own
+    /// work behind it by as much as the others; which grammars changes from sample to sample. For "large" each
+    /// sample is another grammar too, with its rules, nonterminals and terminals in another order, and for G
+    /// another log. The row shows the median over the samples and in brackets the least and the largest;
+    /// ratios are taken sample by sample.
+    fn lone_calls(&self, random: &mut Random, large: &Draft) {
+        let others = lone_mixed(random, large, 2 * OTHERS);
+        let g = families::bench_g();
+        let sampler = Sampler::new(&g);
+        let log = |_| (g.words(), sampler.exact(random, 4_096));
+        let of_g: Vec<Lone> = (0..SAMPLES).map(log).collect();
+        let of_large = lone_mixed(random, large, SAMPLES);
+        for (name, calls) in [("G", of_g), ("large", of_large)] {
+            for (words, tokens) in others.iter().chain(&calls) {
+                self.accept(words);
+                self.agree(|column, (edits, rules)| {
+                    format!("{:?}", column.parse(words, tokens, edits, rules))
+                });
+            }
+            self.head(&format!(
+                "grammar {name}: a call alone, behind other work; check ns a call, parse ns a token"
+            ));
+            self.lone_row(
+                "check lone",
+                &calls,
+                &others,
+                1.0,
+                |column, (words, _), _| {
+                    let _ = black_box(column.check(black_box(words)));
+                },
+            );
+            self.lone_row("parse lone", &calls, &others, 4_096.0, lone_parse);
+        }
+    }
+
+    /// One sample for each call, each behind other work of all columns.
+    fn lone_row(
+        &self,
+        name: &str,
+        calls: &[Lone],
+        others: &[Lone],
+        parts: f64,
+        mut call: impl FnMut(&dyn Implementation, &Lone, &mut Lent),
+    ) {
+        let mut buffers = lent();
+        let mut figures = vec![Vec::new(); self.columns.len()];
+        for (number, own) in calls.iter().enumerate() {
+            for (at, figures) in figures.iter_mut().enumerate() {
+                let (before, behind) = self.columns.split_at(at);
+                for column in behind.iter().chain(before) {
+                    for other in others.iter().cycle().skip(number).take(OTHERS) {
+                        let _ = black_box(column.check(black_box(&other.0)));
+                        lone_parse(column.as_ref(), other, &mut buffers);
+                    }
+                }
+                let column = self.columns[at].as_ref();
+                let time = time_of(ONCE, || call(column, own, &mut buffers));
+                figures.push(time / parts);
+            }
+        }
+        self.print(name, &figures);
     }
 
     /// What the desk is given, in two buffers of as many words as a grammar wants at most.
@@ -252,6 +354,18 @@ impl Bench {
         );
     }
 
+    /// Stops where a column refuses a grammar, or where two give other costs or cheapest rules.
+    fn accept(&self, words: &[u16]) {
+        let mut outcomes = self.columns.iter().map(|column| {
+            column.check(words).expect("an accepted grammar");
+            let [mut costs, mut rules] = [(); 2].map(|()| vec![0xAAAA; MOST_NONTERMINALS]);
+            let answer = column.costs(words, &mut costs, &mut rules);
+            (answer, costs, rules)
+        });
+        let first = outcomes.next().expect("a column");
+        assert!(outcomes.all(|other| other == first), "the columns differ");
+    }
+
     /// Stops where two columns answer differently or leave different words.
     fn agree(&self, mut call: impl FnMut(&dyn Implementation, &mut Lent) -> String) {
         let mut outcomes = self.columns.iter().map(|column| {
@@ -303,8 +417,13 @@ impl Bench {
             .iter_mut()
             .map(|samples| samples.iter_mut().map(|s| median(s)).collect())
             .collect();
+        self.print(name, &figures);
+    }
+
+    /// One row: the figures of each column, and their ratios one by one.
+    fn print(&self, name: &str, figures: &[Vec<f64>]) {
         print!("{name:<28}");
-        for figures in &figures {
+        for figures in figures {
             print!("{:>24}", spread(figures));
         }
         for (over, under) in self.ratios() {
@@ -314,6 +433,25 @@ impl Bench {
         }
         println!();
     }
+}
+
+/// Correct logs of 4,096 tokens, each with the grammar in other numbers and another order, see
+/// [`chains::mixed`], so that no two samples have the same words.
+fn lone_mixed(random: &mut Random, draft: &Draft, count: usize) -> Vec<Lone> {
+    let sampler = Sampler::new(draft);
+    let mut calls = Vec::new();
+    for _ in 0..count {
+        let log = sampler.exact(random, 4_096);
+        let (mixed, tokens) = chains::mixed(random, draft);
+        let log = log.iter().map(|&t| tokens[usize::from(t)]).collect();
+        calls.push((mixed.words(), log));
+    }
+    calls
+}
+
+/// A parse whose answer is of no interest.
+fn lone_parse(column: &dyn Implementation, (words, tokens): &Lone, (edits, rules): &mut Lent) {
+    let _ = black_box(column.parse(black_box(words), tokens, edits, rules));
 }
 
 /// Between 2 and 3 stands 65, which is 10,000 tokens of 1, any number of times.
@@ -379,5 +517,8 @@ fn spread(figures: &[f64]) -> String {
         return format!("{middle:.2}");
     }
     let (least, most) = (sorted[0], sorted[sorted.len() - 1]);
+    if most >= 1_000.0 {
+        return format!("{middle:.0} [{least:.0}, {most:.0}]");
+    }
     format!("{middle:.2} [{least:.2}, {most:.2}]")
 }
