@@ -91,21 +91,28 @@ fn reads(stdin: &[u8]) -> Vec<String> {
 
 /// The answers of `test_check`.
 fn checks(stdin: &[u8]) -> Vec<String> {
+    let answers = checked(stdin).into_iter().map(|(case, words)| {
+        let answer = match plain::check(&words) {
+            Ok(_) => "accepted".to_string(),
+            Err(refusal) => format!("refused {refusal}"),
+        };
+        format!("case {case} {answer}\n")
+    });
+    answers.collect()
+}
+
+/// The cases of `test_check`: their numbers and words.
+pub fn checked(stdin: &[u8]) -> Vec<(u16, Vec<u16>)> {
     let mut words = vec![0; 4_096];
-    let mut answers = Vec::new();
+    let mut cases = Vec::new();
     for [kind, first, second] in steps_of(stdin) {
         let first = usize::from(first);
-        if kind == 0 {
-            words[first] = second;
-        } else {
-            let answer = match plain::check(&words[..first]) {
-                Ok(_) => "accepted".to_string(),
-                Err(refusal) => format!("refused {refusal}"),
-            };
-            answers.push(format!("case {second} {answer}\n"));
+        match kind {
+            0 => words[first] = second,
+            _ => cases.push((second, words[..first].to_vec())),
         }
     }
-    answers
+    cases
 }
 
 /// The answers of `test_parse`.

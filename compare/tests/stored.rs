@@ -5,6 +5,7 @@ use compare::answer::{Implementation, Prints};
 use compare::plain::Plain;
 use compare::tuned::Tuned;
 use compare::{stored, telling};
+use std::fs;
 use std::path::Path;
 
 #[test]
@@ -13,6 +14,16 @@ fn the_stored_answers_are_those_of_the_plain_implementation() {
     for stored in stored::all(&crates).expect("the files of the test programs") {
         assert!(stored.inputs > 0, "{}", stored.program);
         assert_eq!(stored.different, 0, "{}", stored.program);
+    }
+}
+
+#[test]
+fn plain_and_tuned_agree_on_the_stored_grammars() {
+    let crates = Path::new(env!("CARGO_MANIFEST_DIR")).join("../crates");
+    let stdin = fs::read(crates.join("test_check/stdin")).expect("the stored grammars");
+    let tuned = Tuned::default();
+    for (case, words) in stored::checked(&stdin) {
+        assert_eq!(Plain.check(&words), tuned.check(&words), "case {case}");
     }
 }
 

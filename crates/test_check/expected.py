@@ -3,10 +3,15 @@
 
 Run it in this folder:  python3 expected.py
 It uses nothing of the Rattle code. src/main.rt says what a step of the input is and what is printed.
-Each named case has its answer written beside it; the check below, by the textbook's sets, must agree with every one.
+Each named case has its answer written beside it; the check below, by the textbook's sets, must agree with every one. Those for request
+(v) of document 02 stand in chains.py.
 """
 import os
 import random
+import sys
+
+sys.dont_write_bytecode = True
+import chains
 
 END, START = 0, 64
 
@@ -82,33 +87,44 @@ def answer(words):
         return 8
     empty = grow(set(), lambda s: {left for left, right in rules if all(x in s for x in right)})
 
+    def tokens_of(pairs):
+        """The tokens that stand in a pair with each nonterminal."""
+        tokens = {k: set() for k in everything}
+        for k, t in pairs:
+            tokens[k].add(t)
+        return tokens
+
     def begins(firsts, right):
         tokens = set()
         for x in right:
-            tokens |= {x} if x < 64 else {t for k, t in firsts if k == x}
+            tokens |= {x} if x < 64 else firsts[x]
             if x not in empty:
                 break
         return tokens
 
-    firsts = grow(set(), lambda s: {(left, t) for left, right in rules for t in begins(s, right)})
+    def first_pairs(pairs):
+        firsts = tokens_of(pairs)
+        return {(left, t) for left, right in rules for t in begins(firsts, right)}
 
-    def behind(follows):
-        found = set()
+    firsts = tokens_of(grow(set(), first_pairs))
+
+    def follow_pairs(pairs):
+        found, follows = set(), tokens_of(pairs)
         for left, right in rules:
             for i, x in enumerate(right):
                 if x >= 64:
                     rest = right[i + 1:]
                     found |= {(x, t) for t in begins(firsts, rest)}
                     if all(y in empty for y in rest):
-                        found |= {(x, t) for k, t in follows if k == left}
+                        found |= {(x, t) for t in follows[left]}
         return found
 
-    follows = grow({(START, END)}, behind)
+    follows = tokens_of(grow({(START, END)}, follow_pairs))
     seen = set()
     for left, right in rules:
         predict = begins(firsts, right)
         if all(x in empty for x in right):
-            predict |= {t for k, t in follows if k == left}
+            predict |= follows[left]
         if any((left, t) in seen for t in predict):
             return 9
         seen |= {(left, t) for t in predict}
@@ -264,6 +280,9 @@ def main():
         assert answer(words) == told, (name, answer(words))
         cases.append((words, told))
     cases += list(found(20))
+    for words, told, name in chains.cases(words_of):
+        assert answer(words) == told, (name, answer(words))
+        cases.append((words, told))
     held, steps, lines = [0] * 4096, [], []
     for number, (words, told) in enumerate(cases):
         for place, word in enumerate(words):

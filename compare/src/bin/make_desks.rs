@@ -2,10 +2,10 @@
 //!
 //! `steps.bin` holds the steps, as `compare::steps::desk` says, and `answers.txt` a line for each call. The
 //! examples of request (iii) come first, each in buffers around N words; then COUNT seeded calls; then those
-//! that are shaped to tell wrong readings apart.
+//! that are shaped to tell wrong readings apart; then a quarter as many grammars of request (v).
 
 use compare::examples::cheapest;
-use compare::generate::{Input, Source};
+use compare::generate::{chains, Input, Random, Source};
 use compare::steps::desk::{Desks, MOST_ROOM, MOST_WORDS};
 use compare::telling::desks;
 use std::path::PathBuf;
@@ -36,6 +36,7 @@ fn main() -> io::Result<()> {
     for (words, costs, rules) in desks::costs() {
         calls.costs(&words, costs, rules);
     }
+    chained(&mut calls, seed, count / 4);
     let folder = PathBuf::from(folder);
     fs::create_dir_all(&folder)?;
     fs::write(folder.join("steps.bin"), &calls.bytes)?;
@@ -66,6 +67,21 @@ fn rooms(n: usize) -> [(usize, usize); 10] {
     ]
 }
 
+/// So many grammars of request (v), none of them with many words.
+fn chained(calls: &mut Desks, seed: u64, count: u64) {
+    let mut random = Random::new(seed);
+    for _ in 0..count {
+        let words = loop {
+            let words = chains::any(&mut random).words();
+            if calls.changes(&words) <= 2 * MOST_CHANGES {
+                break words;
+            }
+        };
+        let n = usize::from(words[1]);
+        calls.costs(&words, n, n + 2);
+    }
+}
+
 /// So many calls of a source.
 fn seeded(calls: &mut Desks, source: &Source, count: u64) {
     let mut taken = 0;
@@ -77,7 +93,7 @@ fn seeded(calls: &mut Desks, source: &Source, count: u64) {
             words,
             costs,
             rules,
-        } = source.desk(index)
+        } = source.unchained_desk(index)
         else {
             continue;
         };

@@ -47,7 +47,7 @@ fn main() -> io::Result<()> {
             tokens,
             edits,
             rules,
-        } = source.input(index)
+        } = source.unchained(index)
         else {
             continue;
         };

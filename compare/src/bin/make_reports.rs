@@ -49,7 +49,7 @@ fn main() -> io::Result<()> {
             ticks,
             edits,
             rules,
-        } = source.input(index)
+        } = source.unchained(index)
         else {
             continue;
         };

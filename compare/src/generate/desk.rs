@@ -2,16 +2,31 @@
 
 use super::input::{Input, Source};
 use super::random::Random;
-use super::{buffers, edges, grammar, ties};
+use super::{buffers, chains, edges, grammar, ties};
 
 impl Source {
     /// Grammar words number `index` and two buffers for the desk, full of old content; they do not depend
-    /// on those before them.
+    /// on those before them. One in five is a grammar of [`chains`].
     pub fn desk(&self, index: u64) -> Input {
+        let mut random = Random::at(self.seed().rotate_left(24), index);
+        if random.chance(1, 5) {
+            let words = chains::any(&mut random).words();
+            self.lent(&mut random, words)
+        } else {
+            self.unchained_desk(index)
+        }
+    }
+
+    /// The same without those grammars, which the stored calls have by themselves.
+    pub fn unchained_desk(&self, index: u64) -> Input {
         // Away from the inputs and the lists of the same number.
         let mut random = Random::at(self.seed().rotate_left(16), index);
-        let random = &mut random;
-        let words = self.desk_words(random);
+        let words = self.desk_words(&mut random);
+        self.lent(&mut random, words)
+    }
+
+    /// Words with two buffers.
+    fn lent(&self, random: &mut Random, words: Vec<u16>) -> Input {
         // N, where there is such a word.
         let n = words.get(1).map_or(0, |&n| usize::from(n).min(64));
         Input::Costs {

@@ -3,7 +3,7 @@
 use super::draft::Draft;
 use super::log::{self, Sampler};
 use super::random::Random;
-use super::{buffers, edges, families, file, grammar};
+use super::{buffers, chains, edges, families, file, grammar};
 use crate::plain;
 
 /// A call of one part of an implementation. Buffers carry their old content.
@@ -82,10 +82,51 @@ impl Source {
         &self.stock
     }
 
-    /// Input number `index`; it does not depend on the inputs before it. Lists to be written, grammars for
-    /// the desk and logs in marks alone are no such inputs: [`Source::write`], [`Source::desk`] and
-    /// [`Source::marks`] have them, so that the others stay what they are.
+    /// Input number `index`; it does not depend on the inputs before it. One in five has a grammar of
+    /// [`chains`]. Lists to be written, grammars for the desk and logs in marks alone are no such inputs:
+    /// [`Source::write`], [`Source::desk`] and [`Source::marks`] have them, so that the others stay what they
+    /// are.
     pub fn input(&self, index: u64) -> Input {
+        let mut random = Random::at(self.seed.rotate_left(56), index);
+        if random.chance(1, 5) {
+            self.chained(&mut random)
+        } else {
+            self.unchained(index)
+        }
+    }
+
+    /// A check, a parse or a report for a grammar of [`chains`], some of them changed at some edge.
+    fn chained(&self, random: &mut Random) -> Input {
+        let mut draft = chains::any(random);
+        if random.chance(1, 10) {
+            edges::change(random, &mut draft);
+        }
+        let words = draft.words();
+        if random.chance(3, 5) {
+            return Input::Check { words };
+        }
+        let tokens = self.log(random, &draft, plain::check(&words).is_ok());
+        let (edits, rules) = lend(random, &words, &tokens);
+        if random.chance(1, 2) {
+            let ticks = log::ticks(random, tokens.len());
+            return Input::Report {
+                words,
+                tokens,
+                ticks,
+                edits,
+                rules,
+            };
+        }
+        Input::Parse {
+            words,
+            tokens,
+            edits,
+            rules,
+        }
+    }
+
+    /// Input number `index` without those grammars, which the stored calls have by themselves.
+    pub fn unchained(&self, index: u64) -> Input {
         let mut random = Random::at(self.seed, index);
         let random = &mut random;
         match random.below(20) {

@@ -1,6 +1,8 @@
 //! Calls shaped for request (iii), "Which rule is the cheap one": each tells apart wrong readings of which
-//! rule is given, of the words given, and in `refused` of when they are refused.
+//! rule is given, of the words given, and in `refused` of when they are refused. In `late` costs are known
+//! late, for request (v).
 
+mod late;
 mod refused;
 
 use crate::examples::cheapest::{eights, empty_eights, late_tie};
@@ -14,8 +16,7 @@ pub type Call = (Vec<u16>, usize, usize);
 pub fn costs() -> Vec<Call> {
     let mut calls = Vec::new();
     for draft in ties().iter().chain(&falling()).chain(&empties()) {
-        let n = usize::from(draft.nonterminals);
-        calls.push((draft.words(), n, n + 2));
+        calls.push(in_room(draft));
     }
     for draft in numbers() {
         calls.extend(in_rooms(&draft, &[(64, 64), (63, 64), (64, 63), (65, 512)]));
@@ -25,7 +26,14 @@ pub fn costs() -> Vec<Call> {
     }
     calls.extend(refused::rooms());
     calls.extend(refused::refusals());
+    calls.extend(late::all().iter().map(in_room));
     calls
+}
+
+/// A call in buffers that are long enough.
+fn in_room(draft: &Draft) -> Call {
+    let n = usize::from(draft.nonterminals);
+    (draft.words(), n, n + 2)
 }
 
 /// A grammar whose terminals have these costs, from 1 on.
