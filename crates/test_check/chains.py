@@ -105,6 +105,12 @@ def own():
     yield [(64, [1, 65]), (65, [66]), (66, [64])], 7, 'round by way of START'
     yield [(64, [1, 65]), (64, []), (65, [66]), (66, [64, 3])], 0, 'START followed by a token'
     yield [(64, [1, 65]), (64, []), (65, [66]), (66, [64, 1])], 9, 'START followed by its own'
+    yield [(64, [2, 65]), (64, [3, 64, 1]), (65, [1]), (65, [])], 9, 'FOLLOW of START grows behind the rule that passes it on'
+    yield [(64, [2, 65]), (64, [3, 64, 2]), (65, [1]), (65, [])], 0, 'the same with another token'
+    yield [(65, [3, 64]), (64, [2, 65, 1]), (64, [1]), (64, [])], 9, 'FOLLOW of START by that of another, which grows later'
+    yield [(65, [3, 64]), (64, [2, 65, 3]), (64, [1]), (64, [])], 0, 'the same with another token'
+    yield [(65, [2, 65, 3, 66]), (65, [1]), (66, [1]), (66, []), (64, [65, 1])], 9, 'a rule with itself passes on a FOLLOW that grows later'
+    yield [(65, [2, 65, 3, 66]), (65, [1]), (66, [1]), (66, []), (64, [65, 2])], 0, 'the same with another token'
 
 
 # ---- Costs
@@ -196,6 +202,11 @@ def one_of_256(kind, place, whole):
                29: (77, [59, 59]), 30: (78, [58, 58])}
         key = (65, [66, 1] if whole else [74, 1])
         told = 0 if whole else 8
+    elif kind == 'empty':
+        # 68 is nothing but empty, so that 67, 66 and 65 can be.
+        at |= {6: (START, [65, 2]), 8: (START, [2, 2]), 249: (66, [67, 67]), 5: (67, [68, 68]), 250: (68, [])}
+        key = (65, [66, 66] if whole else [66, 62])
+        told = 9 if whole else 0
     elif kind == 'first':
         at |= {6: (START, [65, 1]), 8: (START, [2, 2])}
         key = (65, [66, 1] if whole else [62, 66])
@@ -216,6 +227,7 @@ def cases(words_of):
     for rules, told, name in long_chains():
         for numbers, turned in numbered(rules, 64):
             yield words_of(turned, t=5, n=64), told, f'{name}, {numbers}'
+        yield words_of(rules[::-1], t=5, n=64), told, f'{name}, backwards'
     for rules, told, name in lone_tails():
         for order, turned in ordered(rules):
             yield words_of(turned, t=40, n=62), told, f'{name}, {order}'
@@ -231,7 +243,7 @@ def cases(words_of):
         for numbers, turned in numbered(doubling(n), n):
             yield words_of(turned, n=n), told, f'{n} doubled, {numbers}'
     costs = [0] + [1] * 57 + [375] * 2 + [1] * 4
-    for kind in 'string', 'reached', 'cost', 'first', 'follow':
+    for kind in 'string', 'reached', 'cost', 'empty', 'first', 'follow':
         for whole in True, False:
             for place in EDGES:
                 rules, told = one_of_256(kind, place, whole)
