@@ -1,4 +1,4 @@
-//! Seeded inputs for every part of document 01 and of requests (i), (iii) and (iv): grammars, logs, ticks,
+//! Seeded inputs for every part of document 01 and of requests (i) and (iii) to (v): grammars, logs, ticks,
 //! grammar files, standard input, lists of words, texts and lent buffers. Equal seeds give equal inputs.
 
 pub mod buffers;

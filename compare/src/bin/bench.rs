@@ -3,7 +3,8 @@
 //! Every figure is a median over repeated runs; where a row covers several logs, it shows the
 //! median over the logs and in brackets the least and the largest. Ratios are taken log by
 //! log. Before a log is measured, all implementations are held against each other on it:
-//! answers and every word of every buffer.
+//! answers and every word of every buffer. The last rows, of calls that come alone, have one run of each
+//! sample instead.
 
 use compare::answer::{
     Implementation, LISTING_EDITS, LISTING_MARKS, LISTING_RULES, LISTING_WORDS, LONGEST_FILE,
