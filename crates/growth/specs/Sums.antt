@@ -6,7 +6,7 @@ use mathlib.Core.List.{List, [], _∷_, _++_, append-nil}
 use native.Mathlib.Omega.{arith}
 use borrow.Author.Count.{below-more}
 use native.Mathlib.Nat.{suc-mul, mul-le-mul-right}
-use lib.ListN.{length, getD, set, replicate, drop, drop-of-length-le}
+use lib.ListN.{length, getD, set, replicate, drop, drop-of-length-le, length-replicate}
 use lib.Seq.{getD-set-same, getD-set-other}
 use mir.Syntax.{w64}
 use mir.Val.{Fits}
@@ -50,7 +50,15 @@ all-zero zero k = refl
 all-zero (suc n) zero = refl
 all-zero (suc n) (suc k) = all-zero n k
 
--- Rounds end: the sum of 64 sets stays below 64 * 2 ^ 64.
+-- So many numbers, all 0; and a list that was just made.
+pub record Blank (n : ℕ) (l : List ℕ) : Type 0 where
+  pub size : length l ≡ n
+  pub zeros : (i : ℕ) → getD l i 0 ≡ 0
+
+pub blank-made : (n : ℕ) → Blank n (replicate n 0)
+blank-made n = record { size = length-replicate {A = ℕ} n 0; zeros = all-zero n }
+
+-- Loops end: the sum of 64 sets stays below 64 * 2 ^ 64.
 pub sum-below : (l : List ℕ) → length l ≡ 64 → ((i : ℕ) → Fits w64 (getD l i 0)) → sum l ≤ 64 * 2 ^ 64
 sum-below l e f = subst (λ n. sum l ≤ n * 2 ^ 64) e (sum-bound l (2 ^ 64) (λ i. let g = f i .fits in omega arith))
 

@@ -7,7 +7,7 @@ use mathlib.Core.Bool.{Bool, true}
 use mathlib.Core.List.{List, List·Memᴰ}
 use mathlib.Core.Logic.{_⊎_, _↔_, inl, inr, ⊎-elim}
 use native.Mathlib.Omega.{arith}
-use lib.ListN.{length, getD, replicate, length-replicate}
+use lib.ListN.{length, getD}
 use Rattle.base.specs.Choices.{below-or, below-or-at}
 use Rattle.grammar.specs.Words.{ruleCount, leftSide, rightSide, RuleSymbol, Shaped}
 use Rattle.grammar.specs.theory.Members.{all-at}
@@ -15,9 +15,9 @@ use Rattle.grammar.specs.theory.RightSides.{right-symbols}
 use Rattle.shape.specs.Accessors.{LeftOf}
 use Rattle.sets.specs.Bits.{member}
 use Rattle.sets.specs.Laws.{empty-none, some-member}
-use Rattle.growth.specs.Sums.{all-zero}
+use Rattle.growth.specs.Sums.{Blank}
 use Rattle.growth.specs.Added.{Added}
-use Rattle.mentions.specs.Mentions.{Mentions, InRow, Blank, Gathered, Uses, Used}
+use Rattle.mentions.specs.Mentions.{Mentions, InRow, Gathered, Uses, Used}
 use Rattle.mentions.specs.Putting.{Mentioned, Plain}
 
 pub gather-begins : {ws table : List ℕ} → Blank 260 table → Gathered ws 0 table
@@ -130,7 +130,3 @@ use-goes {ws} {p} {l} {named} {old} {new} u left m a =
 
 pub use-ends : {ws uses : List ℕ} {p n : ℕ} → Used ws p uses → p ≡ n → Used ws n uses
 use-ends {ws} {uses} u e = subst (λ m. Used ws m uses) e u
-
--- A table that was just made.
-pub blank-made : (n : ℕ) → Blank n (replicate n 0)
-blank-made n = record { size = length-replicate {A = ℕ} n 0; zeros = all-zero n }

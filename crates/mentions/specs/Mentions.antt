@@ -16,11 +16,6 @@ Mentions ws p k = List·Memᴰ (64 + k) (rightSide ws p)
 abbrev pub InRow : List ℕ → ℕ → ℕ → Type 0
 InRow table r p = member (getD table (4 * r + p / 64) 0) (p % 64) ≡ true
 
--- So many words, all 0.
-pub record Blank (n : ℕ) (l : List ℕ) : Type 0 where
-  pub size : length l ≡ n
-  pub zeros : (i : ℕ) → getD l i 0 ≡ 0
-
 -- The rules before p are in the rows of the nonterminals that they mention, or in row 64 where they mention none.
 pub record Gathered (ws : List ℕ) (p : ℕ) (table : List ℕ) : Type 0 where
   pub size : length table ≡ 260

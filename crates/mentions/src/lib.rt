@@ -4,7 +4,8 @@ ghost use mathlib.Core.Path.{_≡_};
 ghost use Prim.Native.Nat.{_<_};
 ghost use Rattle.grammar.specs.Words.{ruleCount};
 ghost use Rattle.shape.specs.Ready.{Ready};
-ghost use Rattle.mentions.specs.Mentions.{Blank, Gathered, MentionsOf, UsesOf};
+ghost use Rattle.growth.specs.Sums.{Blank};
+ghost use Rattle.mentions.specs.Mentions.{MentionsOf, UsesOf};
 ghost use Rattle.mentions.specs.Putting.{Mentioned, Named, Plain, Put, Sized};
 
 // How many words a row of rules has, and which row has the rules that mention no nonterminal.

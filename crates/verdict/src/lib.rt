@@ -9,7 +9,7 @@ ghost use Rattle.grammar.specs.Grammar.{RuleOf, Verdict, startOverEnd};
 ghost use Rattle.sets.specs.Bits.{member};
 ghost use Rattle.base.specs.Telling.{Tells};
 ghost use Rattle.shape.specs.Ready.{Ready};
-ghost use Rattle.mentions.specs.Mentions.{Blank};
+ghost use Rattle.growth.specs.Sums.{Blank};
 ghost use Rattle.costs.specs.Costed.{Costed};
 ghost use Rattle.firsts.specs.Asked.{Asked};
 ghost use Rattle.firsts.specs.Masks.{FirstsOf};

@@ -1,7 +1,7 @@
 use native.Mathlib.Omega.{arith}
 use native.Mathlib.Omega.{arith}
 use mathlib.Core.Path.{_∙_}
-use Rattle.mentions.specs.Gathering.{blank-made}
+use Rattle.growth.specs.Sums.{blank-made}
 use Rattle.verdict.specs.Answer.{accepting, refusing}
 use Rattle.verdict.specs.Judge.{refused-5, refused-6, refused-7, refused-8, refused-9, accepted}
 use Rattle.verdict.specs.Prices.{afford-all, afford-none, productive-all, productive-none}
