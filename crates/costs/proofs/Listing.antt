@@ -3,7 +3,7 @@
 --     list-goes     the rules that mention the one taken off are visited
 --     list-ends     behind the list all rules are settled
 --     list-less     it ends: a nonterminal that goes on it costs less
-use Prim.Native.Nat.{ℕ, _+_, _-_, _*_, _^_, _≤_, _<_}
+use Prim.Native.Nat.{ℕ, _+_, _-_, _*_, _/_, _^_, _≤_, _<_}
 use mathlib.Core.Path.{_≡_, refl, sym, ap, _∙_, subst}
 use mathlib.Core.Bool.{true}
 use mathlib.Core.List.{List, [], _∷_, List·Memᴰ, List·Memᴰ·head, List·Memᴰ·tail, List·Memᴰ·not-nil}
@@ -21,11 +21,15 @@ use Rattle.sets.specs.Taking.{without-keeps, without-less}
 use Rattle.growth.specs.Sums.{first-less, second-less}
 use Rattle.mentions.specs.Mentions.{Mentions, InRow, MentionsOf}
 use Rattle.costs.specs.Held.{Held, Fresh, SettledAt, Stands, costSum, entry}
-use Rattle.costs.specs.Visiting.{Waits, Revised, waits-right}
+use Rattle.costs.specs.Visiting.{Waits, Revised, Spans, waits-right}
 
 pub record Listing (ws l : List ℕ) (list : ℕ) : Type 0 where
   pub held : Held ws l
   pub waits : (q : ℕ) → q < ruleCount ws → Waits ws list q ⊎ SettledAt ws q l
+
+-- The words that the rules take.
+pub spans : {ws : List ℕ} {count : ℕ} → Shaped ws → count ≡ ruleCount ws → Spans ws ((count + 63) / 64)
+spans s e = record { few = omega (arith, s .rules-high); all = omega arith }
 
 -- ---- The beginning
 

@@ -195,9 +195,11 @@ module _ (ws l : List ℕ) (s : Shaped ws) (stands : Stands ws l) where
 
   pub barren : (k : ℕ) → 60001 < entry l (64 + k) → Productive (RuleOf ws) (64 + k) → ⊥
   barren k big p =
-      omega
-      (arith, big,
-      first-of (closed-up (RuleOf ws) Has ups (to-der (RuleOf ws) (p .yields .derives)) (all-map tokens (p .yields .terminals))))
+      omega (
+        arith,
+        big,
+        first-of (closed-up (RuleOf ws) Has ups (to-der (RuleOf ws) (p .yields .derives)) (all-map tokens (p .yields .terminals))),
+      )
     where
       tokens : (t : ℕ) → Terminal t → Has t
       tokens t low = ⊎-elim (λ h. h) (λ none. absurd (omega (arith, none .0))) (held .limit t)

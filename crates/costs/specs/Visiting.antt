@@ -10,7 +10,7 @@ use mathlib.Core.Logic.{_⊎_, inl, inr, ⊎-elim}
 use native.Mathlib.Omega.{arith}
 use lib.ListN.{length, getD}
 use Rattle.base.specs.Choices.{below-or, same-or}
-use Rattle.grammar.specs.Words.{ruleCount, Shaped}
+use Rattle.grammar.specs.Words.{ruleCount}
 use Rattle.sets.specs.Bits.{member}
 use Rattle.sets.specs.Operations.{with, union, without, Least}
 use Rattle.sets.specs.Laws.{empty-none, union-left, union-right, union-none, union-grows, union-grows-right}
@@ -129,6 +129,11 @@ word-ends f e =
 
 -- ---- The words of a row
 
+-- So many words of a row have all rules.
+pub record Spans (ws : List ℕ) (size : ℕ) : Type 0 where
+  pub few : size ≤ 4
+  pub all : ruleCount ws ≤ 64 * size
+
 -- The rules of the first w words of the row were visited.
 abbrev pub Rowing : List ℕ → List ℕ → ℕ → ℕ → List ℕ → List ℕ → ℕ → Type 0
 Rowing ws mentions row w old new a = Revised ws (λ q. (q / 64 < w) × InRow mentions row q) old new a
@@ -145,16 +150,15 @@ row-goes mentions row {w} f is v =
     (λ before. inl (before, d .1))
     (λ here.
     let at : q / 64 ≡ w = omega (arith, d .0) in
-    inr
-    (
+    inr (
       at,
       subst (λ s. member s (q % 64) ≡ true) (sym is) (subst (λ n. member (getD mentions (4 * row + n) 0) (q % 64) ≡ true) at (d .1)),
     ))
     (below-or (q / 64) w))
 
-pub row-ends : {ws : List ℕ} (mentions : List ℕ) (row : ℕ) {w a : ℕ} {old new : List ℕ} → Shaped ws → Rowing ws mentions row w old new a → 4 ≤ w
-    → Revised ws (InRow mentions row) old new a
-row-ends mentions row s f all = revised-for f (λ q h d. (omega (arith, s .rules-high), d))
+pub row-ends : {ws : List ℕ} (mentions : List ℕ) (row : ℕ) {w size a : ℕ} {old new : List ℕ} → Spans ws size → Rowing ws mentions row w old new a
+    → size ≤ w → Revised ws (InRow mentions row) old new a
+row-ends mentions row s f all = revised-for f (λ q h d. (omega (arith, s .all), d))
 
 -- What stands in a row are numbers of rules.
 pub row-rules : {ws mentions : List ℕ} {row w : ℕ} → MentionsOf ws mentions → row < 65 → w < 4

@@ -16,7 +16,7 @@ ghost use Rattle.mentions.specs.Mentions.{InRow, MentionsOf};
 ghost use Rattle.costs.specs.Costed.{Costed};
 ghost use Rattle.costs.specs.Empty.{Freed};
 ghost use Rattle.costs.specs.Held.{Begun, Cleared, Fresh, Held, Limited, entry};
-ghost use Rattle.costs.specs.Visiting.{Capped, Chosen, Fell, InWord, Known, Revised, RulesOf};
+ghost use Rattle.costs.specs.Visiting.{Capped, Chosen, Fell, InWord, Known, Revised, RulesOf, Spans};
 
 // What stands for a cost above 60,000.
 const OVER: u32 = 60001;
@@ -33,10 +33,11 @@ pub fn costs(words: &[u16], places: &[u16], mentions: &[u64], table: &mut [u32])
     ensures { λ _. ⌜ Costed (now (words .entry)) (now (table .exit)) ⌝ }
 {
     begin(words, table);
-    let mut list = visit_row(words, places, mentions, mentions::NOTHING, table);
+    let size = (shape::rule_count(words) + 63) / 64;
+    let mut list = visit_row(words, places, mentions, mentions::NOTHING, size, table);
     while 0 < list {
         let k = sets::least(list);
-        let fallen = visit_row(words, places, mentions, k as usize, table);
+        let fallen = visit_row(words, places, mentions, k as usize, size, table);
         list = sets::union(sets::without(list, k), fallen);
     }
 }
@@ -111,17 +112,25 @@ fn begin_nonterminals(words: &[u16], table: &mut [u32])
 
 // ---- The visits
 
-// Visits the rules of a row, and gives the nonterminals whose cost fell.
-fn visit_row(words: &[u16], places: &[u16], mentions: &[u64], row: usize, table: &mut [u32]) -> u64
+// Visits the rules of a row, in as many words as rules take, and gives the nonterminals whose cost fell.
+fn visit_row(
+    words: &[u16],
+    places: &[u16],
+    mentions: &[u64],
+    row: usize,
+    size: usize,
+    table: &mut [u32],
+) -> u64
     requires { ⌜ Ready (now words) (now places) ⌝ }
     requires { ⌜ MentionsOf (now words) (now mentions) ⌝ }
     requires { ⌜ row < 65 ⌝ }
+    requires { ⌜ Spans (now words) size ⌝ }
     requires { ⌜ Held (now words) (now table) ⌝ }
     ensures { λ r. ⌜ Revised (now (words .entry)) (InRow (now (mentions .entry)) row) (now (table .entry)) (now (table .exit)) r ⌝ }
 {
     let mut fallen = 0;
     let mut w = 0;
-    while w < mentions::ROW {
+    while w < size {
         let more = visit_word(words, places, mentions[mentions::ROW * row + w], w, table);
         fallen = sets::union(fallen, more);
         w += 1;

@@ -17,7 +17,7 @@ use Rattle.base.specs.Choices.{same-or, below-or}
 use Rattle.sets.specs.Bits.{member}
 use Rattle.sets.specs.Operations.{with, union, without, Least}
 use Rattle.sets.specs.Laws.{empty-none, with-same, with-keeps, union-left, union-right, union-none, same-members}
-use Rattle.sets.specs.Taking.{without-keeps, without-was, without-gone, without-less}
+use Rattle.sets.specs.Taking.{without-keeps, without-was, without-less}
 use Rattle.growth.specs.Sums.{sum, first-less, second-less}
 use Rattle.growth.specs.Added.{Added}
 

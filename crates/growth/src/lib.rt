@@ -1,7 +1,6 @@
-// A slice of sets that only grow (specs/Added.antt), and the law of all loops over sets that go on until nothing changes
-// (specs/Turns.antt).
+// Sets that only grow: one to which members are added (specs/Added.antt), and all along a list until nothing changes
+// (specs/Closing.antt, specs/Along.antt).
 ghost use mathlib.Core.Path.{_≡_};
-ghost use mathlib.Core.Bool.{_||_};
 ghost use Prim.Native.Nat.{_<_};
 ghost use lib.ListN.{length};
 ghost use Rattle.growth.specs.Added.{Added};
@@ -20,13 +19,6 @@ pub fn add_to(all: &mut [u64], k: usize, mask: u64) -> bool
     }
     all[k] = new;
     true
-}
-
-// One of the two.
-pub fn either(a: bool, b: bool) -> bool
-    ensures { λ r. ⌜ r ≡ (a || b) ⌝ }
-{
-    if a { true } else { b }
 }
 
 // Passes each set on to the sets that it feeds, until nothing changes. The list has the sets that may have to be passed on: at first all

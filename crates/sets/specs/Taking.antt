@@ -118,9 +118,13 @@ complement-bit (suc d) b zero small h =
     omega (arith, bit-zero (2 ^ suc d - 1 - b), bit-zero b)
 complement-bit (suc d) b (suc i) small h =
     let half : (2 ^ suc d - 1 - b) / 2 ≡ 2 ^ d - 1 - b / 2 = omega (arith, pow-suc 2 d) in
-    omega
-    (arith, bit-suc (2 ^ suc d - 1 - b) i, ap (λ (n : ℕ). bit n i) half, bit-suc b i,
-    complement-bit d (b / 2) i (half-below d b small) (omega arith))
+    omega (
+      arith,
+      bit-suc (2 ^ suc d - 1 - b) i,
+      ap (λ (n : ℕ). bit n i) half,
+      bit-suc b i,
+      complement-bit d (b / 2) i (half-below d b small) (omega arith),
+    )
 
 -- A number in a set of 64 is below 64.
 pub member-below : (s i : ℕ) → s < 2 ^ 64 → member s i ≡ true → i < 64
@@ -142,9 +146,15 @@ beyond-of a b small low = record { exact = λ i. (forth i, back i) }
         let here = bit-member a i one in (
           here,
           λ h.
-              omega
-              (arith, both, is, bit-small a i, bit-small (2 ^ 64 - 1 - b) i,
-              complement-bit 64 b i low (member-below a i small here), member-bit b i h),
+              omega (
+                arith,
+                both,
+                is,
+                bit-small a i,
+                bit-small (2 ^ 64 - 1 - b) i,
+                complement-bit 64 b i low (member-below a i small here),
+                member-bit b i h,
+              ),
         )
 
     back : (i : ℕ) → (member a i ≡ true) × (member b i ≡ true → ⊥) → member (bitAnd a (2 ^ 64 - 1 - b)) i ≡ true

@@ -1,3 +1,4 @@
+-- `costs::stays` meets its contract, case by case.
 use borrow.Author.Needs.{needs}
 use native.Mathlib.Omega.{arith}
 use native.Mathlib.Omega.{arith}
@@ -6,22 +7,16 @@ use mathlib.Core.Bool.{true≢false, false≢true}
 use borrow.Author.Tests.{leb-true, leb-false}
 use Rattle.costs.proofs.stays.Statement.{statement}
 use Rattle.costs.proofs.stays.Tie as tie
-use Rattle.costs.proofs.stays.Reads as reads
-use Rattle.costs.proofs.stays.Lts as lts
 
--- src/lib.rt:158:9
 returns : tie.Need-returns
 returns c = record { yes = λ _. (omega (arith, c .if1 .taken), λ e. absurd (omega (arith, c .if1 .taken))); no = λ e. absurd (true≢false e) }
 
--- src/lib.rt:161:9
 returns-2 : tie.Need-returns-2
 returns-2 c = record { yes = λ e. absurd (false≢true e); no = λ _. (omega (arith, c .if2 .taken), λ e. absurd (omega (arith, c .if2 .taken))) }
 
--- src/lib.rt:164:9
 returns-3 : tie.Need-returns-3
 returns-3 c = record { yes = λ _. (omega (arith, c .before .before .if1 .left, c .before .if2 .left), λ e small. absurd (omega (arith, c .if3 .taken))); no = λ e. absurd (true≢false e) }
 
--- src/lib.rt:154:1
 returns-4 : tie.Need-returns-4
 returns-4 c = record { yes = λ e. (omega (arith, c .before .before .if1 .left, c .before .if2 .left), λ _ small. leb-true _ _ e); no = λ e. (omega (arith, c .before .before .if1 .left, c .before .if2 .left), λ _. (omega (arith, c .if3 .left), omega (arith, leb-false (c .before .before .before .args .rule) (c .before .before .before .args .p) e))) }
 

@@ -1,3 +1,4 @@
+-- `costs::visit_word` meets its contract: the rules of the word but the rest are visited. The measure is the rest.
 use borrow.Author.Needs.{needs}
 use native.Mathlib.Omega.{arith}
 use borrow.Author.Needs.{needs}
@@ -8,12 +9,6 @@ use Rattle.sets.specs.Taking.{without-less}
 use Rattle.costs.specs.Visiting.{Wording, word-begins, word-goes, word-ends}
 use Rattle.costs.proofs.visit_word.Statement.{statement}
 use Rattle.costs.proofs.visit_word.Tie as tie
-use Rattle.costs.proofs.visit_word.Reads as reads
-use Rattle.costs.proofs.visit_word.Lts as lts
-use Rattle.costs.proofs.visit.Reads as visit-reads
-use Rattle.sets.proofs.least.Reads as least-reads
-use Rattle.sets.proofs.union.Reads as union-reads
-use Rattle.sets.proofs.without.Reads as without-reads
 
 abbrev Inv-loop : tie.InvT-loop
 Inv-loop words places rules w table₀ rest₀ fallen₀ table rest fallen = Wording words rules w rest table₀ table fallen
@@ -21,51 +16,55 @@ Inv-loop words places rules w table₀ rest₀ fallen₀ table rest fallen = Wor
 abbrev μ-loop : tie.MeasureT-loop
 μ-loop words places rules w table₀ rest₀ fallen₀ table rest fallen = rest
 
--- src/lib.rt:111:5
 loop-holds : tie.Need-loop-holds Inv-loop μ-loop
 loop-holds c = word-begins (c .before .before .before .pre .1 .1)
 
--- src/lib.rt:112:13
 least-requires : tie.Need-least-requires Inv-loop μ-loop
 least-requires c κs = c .loop-test .taken
 
--- src/lib.rt:113:41
 mul-visit : tie.Need-mul-visit Inv-loop μ-loop
-mul-visit c = let rule = c .before .before .before .before .before .before .pre .1 .0 (c .least .result) (c .least .ensures .below) (c .before .before .loop .inv .within (c .least .result) (c .least .ensures .held)) in omega (arith, c .before .before .before .before .before .before .pre .0 .shaped .rules-high)
+mul-visit c =
+    let start = c .before .before .before .before .before .before in
+    let rule = start .pre .1 .0 (c .least .result) (c .least .ensures .below) (c .before .before .loop .inv .within (c .least .result) (c .least .ensures .held)) in omega (arith, start .pre .0 .shaped .rules-high)
 
--- src/lib.rt:113:50
 cast-visit : tie.Need-cast-visit Inv-loop μ-loop
 cast-visit c = record { fits = omega (arith, c .least .ensures .below) }
 
--- src/lib.rt:113:41
 add-visit : tie.Need-add-visit Inv-loop μ-loop
-add-visit c = let rule = c .before .before .before .before .before .before .pre .1 .0 (c .least .result) (c .least .ensures .below) (c .before .before .loop .inv .within (c .least .result) (c .least .ensures .held)) in omega (arith, c .before .before .before .before .before .before .pre .0 .shaped .rules-high)
+add-visit c =
+    let start = c .before .before .before .before .before .before in
+    let rule = start .pre .1 .0 (c .least .result) (c .least .ensures .below) (c .before .before .loop .inv .within (c .least .result) (c .least .ensures .held)) in omega (arith, start .pre .0 .shaped .rules-high)
 
--- src/lib.rt:113:13
 visit-requires : tie.Need-visit-requires Inv-loop μ-loop
-visit-requires c κs = (c .before .before .before .before .before .before .before .pre .0, (c .before .before .before .before .before .before .before .pre .1 .0 (c .before .least .result) (c .before .least .ensures .below) (c .before .before .before .loop .inv .within (c .before .least .result) (c .before .least .ensures .held)), c .before .before .before .loop .inv .revised .held))
+visit-requires c κs =
+    let start = c .before .before .before .before .before .before .before in
+    (start .pre .0, (start .pre .1 .0 (c .before .least .result) (c .before .least .ensures .below) (c .before .before .before .loop .inv .within (c .before .least .result) (c .before .least .ensures .held)), c .before .before .before .loop .inv .revised .held))
 
--- src/lib.rt:114:9
 union-requires : tie.Need-union-requires Inv-loop μ-loop
 union-requires c κs = search needs
 
--- src/lib.rt:115:9
 without-requires : tie.Need-without-requires Inv-loop μ-loop
-without-requires c κs = (c .before .before .before .before .before .least .ensures .below, c .before .before .before .before .before .least .ensures .held)
+without-requires c κs =
+    let by-least = c .before .before .before .before .before .least in
+    (by-least .ensures .below, by-least .ensures .held)
 
--- src/lib.rt:111:5
 loop-less : tie.Need-loop-less Inv-loop μ-loop
-loop-less c = omega (arith, without-less _ _ (c .before .before .before .before .before .before .least .ensures .held), c .without .ensures)
+loop-less c =
+    let by-least = c .before .before .before .before .before .before .least in
+    omega (arith, without-less _ _ (by-least .ensures .held), c .without .ensures)
 
--- src/lib.rt:111:5
 loop-again : tie.Need-loop-again Inv-loop μ-loop
-loop-again c = rw (c .without .ensures) (rw (c .before .union .ensures) (word-goes (c .before .before .before .before .before .before .before .before .loop .inv) (c .before .before .before .before .before .before .least .ensures) (c .before .before .before .before .visit .ensures)))
+loop-again c =
+    let by-visit = c .before .before .before .before .visit in
+    let by-least = c .before .before .before .before .before .before .least in
+    let loop = c .before .before .before .before .before .before .before .before .loop in
+    rw (c .without .ensures) (rw (c .before .union .ensures) (word-goes (loop .inv) (by-least .ensures) (by-visit .ensures)))
 
--- src/lib.rt:103:1
 same-length : tie.Need-same-length Inv-loop μ-loop
-same-length c = c .before .loop .inv .revised .held .size ∙ sym (c .before .before .before .before .before .pre .1 .1 .size)
+same-length c =
+    let start = c .before .before .before .before .before in
+    c .before .loop .inv .revised .held .size ∙ sym (start .pre .1 .1 .size)
 
--- src/lib.rt:103:1
 returns : tie.Need-returns Inv-loop μ-loop
 returns c = word-ends (c .before .loop .inv) (omega (arith, c .loop-test .left))
 

@@ -1,3 +1,4 @@
+-- `growth::feed` meets its contract: the mask is added to all but the rest. The measure is the rest.
 use borrow.Author.Needs.{needs}
 use native.Mathlib.Omega.{arith}
 use Prim.Native.Nat.{ℕ, _<_}
@@ -8,12 +9,6 @@ use Rattle.sets.specs.Taking.{without-less}
 use Rattle.growth.specs.Closing.{Feeding, feed-begins, feed-goes, feed-ends}
 use Rattle.growth.proofs.feed.Statement.{statement}
 use Rattle.growth.proofs.feed.Tie as tie
-use Rattle.growth.proofs.feed.Reads as reads
-use Rattle.growth.proofs.feed.Lts as lts
-use Rattle.growth.proofs.add_to.Reads as add-to-reads
-use Rattle.growth.proofs.note.Reads as note-reads
-use Rattle.sets.proofs.least.Reads as least-reads
-use Rattle.sets.proofs.without.Reads as without-reads
 
 abbrev Inv-loop : tie.InvT-loop
 Inv-loop fed mask sets₀ rest₀ grown₀ sets rest grown = Feeding fed mask rest sets₀ sets grown
@@ -21,43 +16,45 @@ Inv-loop fed mask sets₀ rest₀ grown₀ sets rest grown = Feeding fed mask re
 abbrev μ-loop : tie.MeasureT-loop
 μ-loop fed mask sets₀ rest₀ grown₀ sets rest grown = rest
 
--- src/lib.rt:54:5
 loop-holds : tie.Need-loop-holds Inv-loop μ-loop
 loop-holds c = feed-begins _ _ _
 
--- src/lib.rt:55:13
 least-requires : tie.Need-least-requires Inv-loop μ-loop
 least-requires c κs = c .loop-test .taken
 
--- src/lib.rt:56:33
 cast-add-to : tie.Need-cast-add-to Inv-loop μ-loop
 cast-add-to c = record { fits = omega (arith, c .before .least .ensures .below) }
 
--- src/lib.rt:56:13
 add-to-requires : tie.Need-add-to-requires Inv-loop μ-loop
-add-to-requires c κs = omega (arith, c .before .least .ensures .below, c .before .before .before .loop .inv .same, c .before .before .before .before .before .pre)
+add-to-requires c κs =
+    let start = c .before .before .before .before .before in
+    omega (arith, c .before .least .ensures .below, c .before .before .before .loop .inv .same, start .pre)
 
--- src/lib.rt:57:9
 note-requires : tie.Need-note-requires Inv-loop μ-loop
-note-requires c κs = c .before .before .before .before .least .ensures .below
+note-requires c κs =
+    let by-least = c .before .before .before .before .least in
+    by-least .ensures .below
 
--- src/lib.rt:58:9
 without-requires : tie.Need-without-requires Inv-loop μ-loop
-without-requires c κs = (c .before .before .before .before .before .least .ensures .below, c .before .before .before .before .before .least .ensures .held)
+without-requires c κs =
+    let by-least = c .before .before .before .before .before .least in
+    (by-least .ensures .below, by-least .ensures .held)
 
--- src/lib.rt:54:5
 loop-less : tie.Need-loop-less Inv-loop μ-loop
-loop-less c = omega (arith, without-less _ _ (c .before .before .before .before .before .before .least .ensures .held), c .without .ensures)
+loop-less c =
+    let by-least = c .before .before .before .before .before .before .least in
+    omega (arith, without-less _ _ (by-least .ensures .held), c .without .ensures)
 
--- src/lib.rt:54:5
 loop-again : tie.Need-loop-again Inv-loop μ-loop
-loop-again c = rw (c .without .ensures) (feed-goes (c .before .before .before .before .before .before .before .before .loop .inv) (c .before .before .before .before .before .before .least .ensures) (c .before .before .before .before .add-to .ensures) (c .before .note .ensures))
+loop-again c =
+    let by-add-to = c .before .before .before .before .add-to in
+    let by-least = c .before .before .before .before .before .before .least in
+    let loop = c .before .before .before .before .before .before .before .before .loop in
+    rw (c .without .ensures) (feed-goes (loop .inv) (by-least .ensures) (by-add-to .ensures) (c .before .note .ensures))
 
--- src/lib.rt:48:1
 same-length : tie.Need-same-length Inv-loop μ-loop
 same-length c = c .before .loop .inv .same
 
--- src/lib.rt:48:1
 returns : tie.Need-returns Inv-loop μ-loop
 returns c = feed-ends (c .before .loop .inv) (omega (arith, c .loop-test .left))
 
