@@ -1,8 +1,6 @@
 -- `costs::costs` meets its contract: a rule that mentions nothing on the list is settled, and behind the list all are.
 use borrow.Author.Needs.{needs}
 use native.Mathlib.Omega.{arith}
-use borrow.Author.Needs.{needs}
-use native.Mathlib.Omega.{arith}
 use Prim.Native.Nat.{_<_, _^_}
 use mathlib.Core.Path.{_≡_, refl, sym, ap, _∙_, subst}
 use Rattle.sets.specs.Operations.{union}
@@ -33,8 +31,13 @@ add-size c = search needs
 visit-row-requires : tie.Need-visit-row-requires Inv-loop μ-loop
 visit-row-requires c κs =
     let by-begin = c .before .before .before .before .begin in
-    let start = c .before .before .before .before .before .before .before .before .before .before in
-    (start .pre .0, (start .pre .1 .0, (omega arith, (spans (start .pre .0 .shaped) (c .before .rule-count .ensures), by-begin .ensures .held))))
+    let start = c .before .before .before .before .before .before .before .before .before .before in (
+      start .pre .0,
+      (
+        start .pre .1 .0,
+        (omega arith, (spans (start .pre .0 .shaped) (c .before .rule-count .ensures), by-begin .ensures .held)),
+      ),
+    )
 
 loop-holds : tie.Need-loop-holds Inv-loop μ-loop
 loop-holds c =
@@ -51,8 +54,16 @@ cast-visit-row c = record { fits = omega (arith, c .least .ensures .below) }
 visit-row-requires-2 : tie.Need-visit-row-requires-2 Inv-loop μ-loop
 visit-row-requires-2 c κs =
     let by-rule-count = c .before .before .before .before .before .before .before .before .rule-count in
-    let start = c .before .before .before .before .before .before .before .before .before .before .before .before .before .before .before .before .before in
-    (start .pre .0, (start .pre .1 .0, (omega (arith, c .before .least .ensures .below), (spans (start .pre .0 .shaped) (by-rule-count .ensures), c .before .before .before .loop .inv .held))))
+    let start = c .before .before .before .before .before .before .before .before .before .before .before .before .before .before .before .before .before in (
+      start .pre .0,
+      (
+        start .pre .1 .0,
+        (
+          omega (arith, c .before .least .ensures .below),
+          (spans (start .pre .0 .shaped) (by-rule-count .ensures), c .before .before .before .loop .inv .held),
+        ),
+      ),
+    )
 
 without-requires : tie.Need-without-requires Inv-loop μ-loop
 without-requires c κs =
@@ -67,7 +78,10 @@ loop-less c =
     let by-visit-row2 = c .before .before .before .before .visit-row2 in
     let by-least = c .before .before .before .before .before .before .least in
     let loop = c .before .before .before .before .before .before .before .before .loop in
-    let is = c .union .ensures ∙ ap (λ n. union n (by-visit-row2 .result)) (c .before .without .ensures) in let small : c .union .result < 2 ^ 64 = search needs in subst (λ n. left (by-visit-row2 .last .1 .1 .1 .1 .1 .0) n < left (loop .table) (loop .list)) (sym is) (list-less (by-least .ensures) (by-visit-row2 .ensures) (subst (λ n. n < 2 ^ 64) is small))
+    let is = c .union .ensures ∙ ap (λ n. union n (by-visit-row2 .result)) (c .before .without .ensures) in
+    let small : c .union .result < 2 ^ 64 = search needs in
+    subst (λ n. left (by-visit-row2 .last .1 .1 .1 .1 .1 .0) n < left (loop .table) (loop .list)) (sym is)
+    (list-less (by-least .ensures) (by-visit-row2 .ensures) (subst (λ n. n < 2 ^ 64) is small))
 
 loop-again : tie.Need-loop-again Inv-loop μ-loop
 loop-again c =
@@ -75,7 +89,8 @@ loop-again c =
     let by-least = c .before .before .before .before .before .before .least in
     let loop = c .before .before .before .before .before .before .before .before .loop in
     let start = c .before .before .before .before .before .before .before .before .before .before .before .before .before .before .before .before .before .before .before .before .before .before in
-    rw (c .union .ensures) (rw (c .before .without .ensures) (list-goes (start .pre .0 .shaped) (start .pre .1 .0) (loop .inv) (by-least .ensures) (by-visit-row2 .ensures)))
+    rw (c .union .ensures) (rw (c .before .without .ensures)
+    (list-goes (start .pre .0 .shaped) (start .pre .1 .0) (loop .inv) (by-least .ensures) (by-visit-row2 .ensures)))
 
 same-length : tie.Need-same-length Inv-loop μ-loop
 same-length c =

@@ -1,8 +1,6 @@
 -- `costs::empties` meets its contract: the mask has what can be empty of the nonterminals in front of k.
 use borrow.Author.Needs.{needs}
 use native.Mathlib.Omega.{arith}
-use borrow.Author.Needs.{needs}
-use native.Mathlib.Omega.{arith}
 use Prim.Native.Nat.{_-_, _≤_, _<_}
 use mathlib.Core.Path.{_≡_, sym, subst}
 use Rattle.costs.specs.Empty.{Emptied, mask-begins, mask-goes, mask-ends}
@@ -24,7 +22,8 @@ loop-holds c = (omega arith, mask-begins _)
 cast-freed : tie.Need-cast-freed Inv-loop μ-loop
 cast-freed c =
     let start = c .before .before .before .before .before in
-    let few = start .pre .0 .nonterminals-high in record { fits = omega (arith, c .loop-test .taken, c .before .before .nonterminal-count .ensures) }
+    let few = start .pre .0 .nonterminals-high in
+    record { fits = omega (arith, c .loop-test .taken, c .before .before .nonterminal-count .ensures) }
 
 add-freed : tie.Need-add-freed Inv-loop μ-loop
 add-freed c =
@@ -39,12 +38,14 @@ mul-freed c =
 shared-slice-read-freed : tie.Need-shared-slice-read-freed Inv-loop μ-loop
 shared-slice-read-freed c =
     let start = c .before .before .before .before .before .before in
-    let few = start .pre .0 .nonterminals-high in omega (arith, c .before .loop-test .taken, c .before .before .before .nonterminal-count .ensures, start .pre .1 .size)
+    let few = start .pre .0 .nonterminals-high in
+    omega (arith, c .before .loop-test .taken, c .before .before .before .nonterminal-count .ensures, start .pre .1 .size)
 
 freed-requires : tie.Need-freed-requires Inv-loop μ-loop
 freed-requires c κs =
     let start = c .before .before .before .before .before .before in
-    let few = start .pre .0 .nonterminals-high in omega (arith, c .before .loop-test .taken, c .before .before .before .nonterminal-count .ensures)
+    let few = start .pre .0 .nonterminals-high in
+    omega (arith, c .before .loop-test .taken, c .before .before .before .nonterminal-count .ensures)
 
 add-k : tie.Need-add-k Inv-loop μ-loop
 add-k c = search needs
@@ -55,11 +56,17 @@ loop-less c = search needs
 loop-again : tie.Need-loop-again Inv-loop μ-loop
 loop-again c =
     let by-nonterminal-count = c .before .before .before .before .nonterminal-count in
-    let start = c .before .before .before .before .before .before .before in
-    (omega (arith, c .before .before .loop-test .taken), mask-goes (start .pre .0) (start .pre .1) (omega (arith, c .before .before .loop-test .taken, by-nonterminal-count .ensures)) (c .before .before .before .loop .inv .1) (c .freed .ensures))
+    let start = c .before .before .before .before .before .before .before in (
+      omega (arith, c .before .before .loop-test .taken),
+      mask-goes (start .pre .0) (start .pre .1)
+          (omega (arith, c .before .before .loop-test .taken, by-nonterminal-count .ensures)) (c .before .before .before .loop .inv .1)
+          (c .freed .ensures),
+    )
 
 returns : tie.Need-returns Inv-loop μ-loop
-returns c = mask-ends (c .before .loop .inv .1) (omega (arith, c .loop-test .left, c .before .loop .inv .0, c .before .before .nonterminal-count .ensures))
+returns c =
+    mask-ends (c .before .loop .inv .1) (omega
+    (arith, c .loop-test .left, c .before .loop .inv .0, c .before .before .nonterminal-count .ensures))
 
 pub empties-spec : {M : Type 1} → statement M
 empties-spec =

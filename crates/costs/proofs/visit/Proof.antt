@@ -1,5 +1,5 @@
--- `costs::visit` meets its contract: cost and rule of the left side are written where the right side costs less, or as much by a lower rule.
-use native.Mathlib.Omega.{arith}
+-- `costs::visit` meets its contract: cost and rule of the left side are written where the right side costs less, or as much by a lower
+-- rule.
 use native.Mathlib.Omega.{arith}
 use Prim.Native.Nat.{_+_}
 use mathlib.Core.Path.{_≡_, sym, _∙_, subst}
@@ -58,7 +58,9 @@ returns c =
     let by-capped = c .before .before .before .before .before .capped in
     let by-rule-cost = c .before .before .before .before .before .before .rule-cost in
     let start = c .before .before .before .before .before .before .before .before .before .before .before in
-    kept _ _ (start .pre .0 .shaped) (start .pre .1 .1) _ (start .pre .1 .0) _ (by-left-of .ensures) _ (subst (λ n. Capped n (by-capped .result)) (by-rule-cost .ensures) (by-capped .ensures)) (c .before .stays .ensures .yes (c .if1 .taken))
+    kept _ _ (start .pre .0 .shaped) (start .pre .1 .1) _ (start .pre .1 .0) _ (by-left-of .ensures) _
+    (subst (λ n. Capped n (by-capped .result)) (by-rule-cost .ensures) (by-capped .ensures))
+    (c .before .stays .ensures .yes (c .if1 .taken))
 
 mul-table : tie.Need-mul-table
 mul-table c = search needs
@@ -83,7 +85,12 @@ slice-write-table-2 c =
     let by-left-of = c .before .before .before .before .before .left-of in
     let by-capped = c .before .before .before .before .before .before .capped in
     let start = c .before .before .before .before .before .before .before .before .before .before .before .before in
-    omega (arith, length-set (start .args .table .now) (64 + by-left-of .result) (by-capped .result), start .pre .1 .1 .size, by-left-of .ensures .small)
+    omega (
+      arith,
+      length-set (start .args .table .now) (64 + by-left-of .result) (by-capped .result),
+      start .pre .1 .1 .size,
+      by-left-of .ensures .small,
+    )
 
 fell-requires : tie.Need-fell-requires
 fell-requires c κs = search needs
@@ -97,7 +104,9 @@ returns-2 c =
     let by-capped = c .before .before .before .before .before .before .before .capped in
     let by-rule-cost = c .before .before .before .before .before .before .before .before .rule-cost in
     let start = c .before .before .before .before .before .before .before .before .before .before .before .before .before in
-    written _ _ (start .pre .0 .shaped) (start .pre .1 .1) _ (start .pre .1 .0) _ (by-left-of .ensures) _ (subst (λ n. Capped n (by-capped .result)) (by-rule-cost .ensures) (by-capped .ensures)) (c .before .before .before .stays .ensures .no (c .before .before .if1 .left)) _ (c .before .known .ensures) (c .fell .ensures)
+    written _ _ (start .pre .0 .shaped) (start .pre .1 .1) _ (start .pre .1 .0) _ (by-left-of .ensures) _
+    (subst (λ n. Capped n (by-capped .result)) (by-rule-cost .ensures) (by-capped .ensures))
+    (c .before .before .before .stays .ensures .no (c .before .before .if1 .left)) _ (c .before .known .ensures) (c .fell .ensures)
 
 pub visit-spec : {M : Type 1} → statement M
 visit-spec =

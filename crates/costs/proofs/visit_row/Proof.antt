@@ -1,8 +1,6 @@
 -- `costs::visit_row` meets its contract: the rules of the first w words are visited.
 use borrow.Author.Needs.{needs}
 use native.Mathlib.Omega.{arith}
-use borrow.Author.Needs.{needs}
-use native.Mathlib.Omega.{arith}
 use Prim.Native.Nat.{_+_, _*_, _-_, _≤_}
 use mathlib.Core.Path.{_≡_, refl, sym, _∙_, subst}
 use Rattle.costs.specs.Visiting.{Rowing, row-begins, row-goes, row-ends, row-rules}
@@ -42,8 +40,14 @@ shared-slice-read-visit-word c =
 
 visit-word-requires : tie.Need-visit-word-requires Inv-loop μ-loop
 visit-word-requires c κs =
-    let start = c .before .before .before .before .before .before .before .before in
-    (start .pre .0, (row-rules (start .pre .1 .0) (start .pre .1 .1 .0) (omega (arith, c .before .before .loop-test .taken, start .pre .1 .1 .1 .0 .few)), c .before .before .before .loop .inv .1 .held))
+    let start = c .before .before .before .before .before .before .before .before in (
+      start .pre .0,
+      (
+        row-rules (start .pre .1 .0) (start .pre .1 .1 .0)
+            (omega (arith, c .before .before .loop-test .taken, start .pre .1 .1 .1 .0 .few)),
+        c .before .before .before .loop .inv .1 .held,
+      ),
+    )
 
 union-requires : tie.Need-union-requires Inv-loop μ-loop
 union-requires c κs = search needs
@@ -58,8 +62,11 @@ loop-again : tie.Need-loop-again Inv-loop μ-loop
 loop-again c =
     let loop-test = c .before .before .before .before .before .before .loop-test in
     let loop = c .before .before .before .before .before .before .before .loop in
-    let start = c .before .before .before .before .before .before .before .before .before .before .before .before in
-    (omega (arith, loop-test .taken), rw (c .union .ensures) (row-goes (start .args .mentions .now) (start .args .row) (loop .inv .1) refl (c .before .before .before .visit-word .ensures)))
+    let start = c .before .before .before .before .before .before .before .before .before .before .before .before in (
+      omega (arith, loop-test .taken),
+      rw (c .union .ensures)
+          (row-goes (start .args .mentions .now) (start .args .row) (loop .inv .1) refl (c .before .before .before .visit-word .ensures)),
+    )
 
 same-length : tie.Need-same-length Inv-loop μ-loop
 same-length c =
@@ -69,7 +76,8 @@ same-length c =
 returns : tie.Need-returns Inv-loop μ-loop
 returns c =
     let start = c .before .before .before .before .before .before in
-    row-ends (start .args .mentions .now) (start .args .row) (start .pre .1 .1 .1 .0) (c .before .loop .inv .1) (omega (arith, c .loop-test .left))
+    row-ends (start .args .mentions .now) (start .args .row) (start .pre .1 .1 .1 .0) (c .before .loop .inv .1)
+    (omega (arith, c .loop-test .left))
 
 pub visit-row-spec : {M : Type 1} → statement M
 visit-row-spec =

@@ -1,8 +1,6 @@
 -- `costs::visit_word` meets its contract: the rules of the word but the rest are visited. The measure is the rest.
 use borrow.Author.Needs.{needs}
 use native.Mathlib.Omega.{arith}
-use borrow.Author.Needs.{needs}
-use native.Mathlib.Omega.{arith}
 use Prim.Native.Nat.{_+_, _*_}
 use mathlib.Core.Path.{_≡_, sym, _∙_, subst}
 use Rattle.sets.specs.Taking.{without-less}
@@ -25,7 +23,8 @@ least-requires c κs = c .loop-test .taken
 mul-visit : tie.Need-mul-visit Inv-loop μ-loop
 mul-visit c =
     let start = c .before .before .before .before .before .before in
-    let rule = start .pre .1 .0 (c .least .result) (c .least .ensures .below) (c .before .before .loop .inv .within (c .least .result) (c .least .ensures .held)) in omega (arith, start .pre .0 .shaped .rules-high)
+    let rule = start .pre .1 .0 (c .least .result) (c .least .ensures .below)
+    (c .before .before .loop .inv .within (c .least .result) (c .least .ensures .held)) in omega (arith, start .pre .0 .shaped .rules-high)
 
 cast-visit : tie.Need-cast-visit Inv-loop μ-loop
 cast-visit c = record { fits = omega (arith, c .least .ensures .below) }
@@ -33,12 +32,19 @@ cast-visit c = record { fits = omega (arith, c .least .ensures .below) }
 add-visit : tie.Need-add-visit Inv-loop μ-loop
 add-visit c =
     let start = c .before .before .before .before .before .before in
-    let rule = start .pre .1 .0 (c .least .result) (c .least .ensures .below) (c .before .before .loop .inv .within (c .least .result) (c .least .ensures .held)) in omega (arith, start .pre .0 .shaped .rules-high)
+    let rule = start .pre .1 .0 (c .least .result) (c .least .ensures .below)
+    (c .before .before .loop .inv .within (c .least .result) (c .least .ensures .held)) in omega (arith, start .pre .0 .shaped .rules-high)
 
 visit-requires : tie.Need-visit-requires Inv-loop μ-loop
 visit-requires c κs =
-    let start = c .before .before .before .before .before .before .before in
-    (start .pre .0, (start .pre .1 .0 (c .before .least .result) (c .before .least .ensures .below) (c .before .before .before .loop .inv .within (c .before .least .result) (c .before .least .ensures .held)), c .before .before .before .loop .inv .revised .held))
+    let start = c .before .before .before .before .before .before .before in (
+      start .pre .0,
+      (
+        start .pre .1 .0 (c .before .least .result) (c .before .least .ensures .below)
+            (c .before .before .before .loop .inv .within (c .before .least .result) (c .before .least .ensures .held)),
+        c .before .before .before .loop .inv .revised .held,
+      ),
+    )
 
 union-requires : tie.Need-union-requires Inv-loop μ-loop
 union-requires c κs = search needs

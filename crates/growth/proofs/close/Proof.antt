@@ -4,7 +4,6 @@ use native.Mathlib.Omega.{arith}
 use Prim.Native.Nat.{ℕ, _^_, _<_}
 use mathlib.Core.Path.{_≡_, refl, sym, ap, _∙_, subst}
 use Rattle.sets.specs.Operations.{union}
-use native.Mathlib.Omega.{arith}
 use lib.ListN.{length}
 use Rattle.sets.specs.Taking.{without-less}
 use Rattle.growth.specs.Sums.{sum-below}
@@ -60,7 +59,12 @@ loop-less c =
     let by-feed = c .before .before .before .before .feed in
     let by-least = c .before .before .before .before .before .before .before .before .least in
     let loop = c .before .before .before .before .before .before .before .before .before .before .loop in
-    let size = by-feed .ensures .same ∙ loop .inv .size in let is = c .union .ensures ∙ ap (λ n. union n (by-feed .result)) (c .before .without .ensures) in let small : c .union .result < 2 ^ 64 = search needs in subst (λ n. left (by-feed .last .1 .1 .0) n < left (loop .sets) (loop .waiting)) (sym is) (close-less (by-least .ensures) (by-feed .ensures) (sum-below _ size (c .before .before .slice-known3 .given)) (subst (λ n. n < 2 ^ 64) is small))
+    let size = by-feed .ensures .same ∙ loop .inv .size in
+    let is = c .union .ensures ∙ ap (λ n. union n (by-feed .result)) (c .before .without .ensures) in
+    let small : c .union .result < 2 ^ 64 = search needs in
+    subst (λ n. left (by-feed .last .1 .1 .0) n < left (loop .sets) (loop .waiting)) (sym is)
+    (close-less (by-least .ensures) (by-feed .ensures) (sum-below _ size (c .before .before .slice-known3 .given))
+    (subst (λ n. n < 2 ^ 64) is small))
 
 loop-again : tie.Need-loop-again Inv-loop μ-loop
 loop-again c =

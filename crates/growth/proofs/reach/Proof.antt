@@ -1,8 +1,6 @@
 -- `growth::reach` meets its contract: what is done has been stepped on from. The measure is what is left to be done.
 use borrow.Author.Needs.{needs}
 use native.Mathlib.Omega.{arith}
-use borrow.Author.Needs.{needs}
-use native.Mathlib.Omega.{arith}
 use Prim.Native.Nat.{_-_, _^_, _≤_, _<_}
 use mathlib.Core.Path.{_≡_, refl, sym, subst}
 use Rattle.growth.specs.Along.{Reaching, along-begins, along-goes, along-ends, along-less}
@@ -50,13 +48,15 @@ with-requires-2 c κs = c .before .before .least .ensures .below
 loop-less : tie.Need-loop-less Inv-loop μ-loop
 loop-less c =
     let by-beyond = c .before .before .before .before .before .beyond in
-    let small : c .with2 .result < 2 ^ 64 = search needs in rw (c .with2 .ensures) (along-less (by-beyond .ensures) (c .before .before .before .least .ensures) (omega (arith, c .with2 .ensures)))
+    let small : c .with2 .result < 2 ^ 64 = search needs in
+    rw (c .with2 .ensures) (along-less (by-beyond .ensures) (c .before .before .before .least .ensures) (omega (arith, c .with2 .ensures)))
 
 loop-again : tie.Need-loop-again Inv-loop μ-loop
 loop-again c =
     let by-beyond = c .before .before .before .before .before .beyond in
     let loop = c .before .before .before .before .before .before .loop in
-    rw (c .before .union .ensures) (rw (c .with2 .ensures) (along-goes (loop .inv) (by-beyond .ensures) (c .before .before .before .least .ensures) refl))
+    rw (c .before .union .ensures) (rw (c .with2 .ensures)
+    (along-goes (loop .inv) (by-beyond .ensures) (c .before .before .before .least .ensures) refl))
 
 pub reach-spec : {M : Type 1} → statement M
 reach-spec =

@@ -1,8 +1,6 @@
 -- `mentions::gather` meets its contract: the rules in front of p are in their rows.
 use borrow.Author.Needs.{needs}
 use native.Mathlib.Omega.{arith}
-use borrow.Author.Needs.{needs}
-use native.Mathlib.Omega.{arith}
 use Prim.Native.Nat.{_-_, _≤_, _<_, _^_}
 use mathlib.Core.Path.{_≡_, sym, _∙_, subst}
 use Rattle.grammar.specs.Words.{ruleCount}
@@ -30,14 +28,16 @@ loop-holds c =
 mention-requires : tie.Need-mention-requires Inv-loop μ-loop
 mention-requires c κs =
     let start = c .before .before .before .before .before .before .before .before in
-    let below = c .before .loop-test .taken in (start .pre .0, (omega (arith, c .before .before .before .rule-count .ensures), c .before .before .loop .inv .1 .size))
+    let below = c .before .loop-test .taken in
+    (start .pre .0, (omega (arith, c .before .before .before .rule-count .ensures), c .before .before .loop .inv .1 .size))
 
 put-plain-requires : tie.Need-put-plain-requires Inv-loop μ-loop
 put-plain-requires c κs =
     let loop-test = c .before .before .before .before .before .loop-test in
     let by-rule-count = c .before .before .before .before .before .before .before .rule-count in
     let start = c .before .before .before .before .before .before .before .before .before .before .before .before in
-    let below = loop-test .taken in (c .before .before .before .mention .ensures .size, omega (arith, by-rule-count .ensures, start .pre .0 .shaped .rules-high))
+    let below = loop-test .taken in
+    (c .before .before .before .mention .ensures .size, omega (arith, by-rule-count .ensures, start .pre .0 .shaped .rules-high))
 
 left-of-requires : tie.Need-left-of-requires Inv-loop μ-loop
 left-of-requires c κs =
@@ -68,7 +68,14 @@ loop-again c =
     let loop = c .before .before .before .before .before .before .before .before .before .before .before .before .before .before .loop in
     let by-rule-count = c .before .before .before .before .before .before .before .before .before .before .before .before .before .before .before .rule-count in
     let start = c .before .before .before .before .before .before .before .before .before .before .before .before .before .before .before .before .before .before .before .before in
-    let below = loop-test .taken in let small : by-mention .result < 2 ^ 64 = search needs in (omega (arith, by-rule-count .ensures), gather-goes (start .pre .0 .shaped) (loop .inv .1) (omega (arith, by-rule-count .ensures)) small (by-mention .ensures) (by-put-plain .ensures), use-goes (loop .inv .2) (c .before .before .before .left-of .ensures) (by-mention .ensures) (c .before .before .add-to .ensures))
+    let below = loop-test .taken in
+    let small : by-mention .result < 2 ^ 64 = search needs in (
+      omega (arith, by-rule-count .ensures),
+      gather-goes (start .pre .0 .shaped) (loop .inv .1) (omega (arith, by-rule-count .ensures)) small
+          (by-mention .ensures) (by-put-plain .ensures),
+      use-goes (loop .inv .2) (c .before .before .before .left-of .ensures)
+          (by-mention .ensures) (c .before .before .add-to .ensures),
+    )
 
 same-length : tie.Need-same-length Inv-loop μ-loop
 same-length c =
@@ -83,7 +90,10 @@ same-length-2 c =
 returns : tie.Need-returns Inv-loop μ-loop
 returns c =
     let start = c .before .before .before .before .before .before .before in
-    let below = c .loop-test .left in let all : c .before .loop .p ≡ ruleCount (start .args .words .now) = omega (arith, c .before .before .rule-count .ensures, c .before .loop .inv .0) in (gather-ends (c .before .loop .inv .1) all, use-ends (c .before .loop .inv .2) all)
+    let below = c .loop-test .left in
+    let all : c .before .loop .p ≡ ruleCount (start .args .words .now) = omega
+    (arith, c .before .before .rule-count .ensures, c .before .loop .inv .0) in
+    (gather-ends (c .before .loop .inv .1) all, use-ends (c .before .loop .inv .2) all)
 
 pub gather-spec : {M : Type 1} → statement M
 gather-spec =

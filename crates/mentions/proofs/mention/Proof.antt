@@ -1,8 +1,6 @@
 -- `mentions::mention` meets its contract: rule p is in the rows of its symbols from i on. The measure is i.
 use borrow.Author.Needs.{needs}
 use native.Mathlib.Omega.{arith}
-use borrow.Author.Needs.{needs}
-use native.Mathlib.Omega.{arith}
 use mathlib.Core.Path.{sym, _∙_}
 use Rattle.mentions.specs.Putting.{Mentioned, mention-begins, mention-goes, mention-ends}
 use Rattle.mentions.proofs.mention.Statement.{statement}

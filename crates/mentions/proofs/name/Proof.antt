@@ -1,7 +1,6 @@
 -- `mentions::name` meets its contract: a terminal has no row.
 use native.Mathlib.Omega.{arith}
 use Rattle.mentions.specs.Putting.{named-none, named-one}
-use native.Mathlib.Omega.{arith}
 use borrow.Author.Needs.{needs}
 use Rattle.mentions.proofs.name.Statement.{statement}
 use Rattle.mentions.proofs.name.Tie as tie

@@ -1,6 +1,5 @@
 -- `verdict::judge` meets its contract: each test tells its condition, in the order of document 01.
 use native.Mathlib.Omega.{arith}
-use native.Mathlib.Omega.{arith}
 use mathlib.Core.Path.{_∙_}
 use Rattle.growth.specs.Sums.{blank-made}
 use Rattle.verdict.specs.Answer.{accepting, refusing}
@@ -29,7 +28,8 @@ returns-2 : tie.Need-returns-2
 returns-2 c =
     let by-if1 = c .before .before .before .before .before .before .if1 in
     let by-shape = c .before .before .before .before .before .before .before .shape in
-    refusing (refused-6 _ (by-shape .ensures .yes (by-if1 .taken) .shaped) (c .before .before .reachable .ensures .tells .no (c .if2 .left)))
+    refusing (refused-6 _ (by-shape .ensures .yes (by-if1 .taken) .shaped)
+    (c .before .before .reachable .ensures .tells .no (c .if2 .left)))
 
 slice-aggregate-costs : tie.Need-slice-aggregate-costs
 slice-aggregate-costs c = search needs
@@ -58,7 +58,8 @@ returns-3 c =
     let by-reachable = c .before .before .before .before .before .before .before .before .before .before .before .before .reachable in
     let by-if1 = c .before .before .before .before .before .before .before .before .before .before .before .before .before .before .before .before .if1 in
     let by-shape = c .before .before .before .before .before .before .before .before .before .before .before .before .before .before .before .before .before .shape in
-    refusing (refused-7 _ (by-shape .ensures .yes (by-if1 .taken) .shaped) (by-reachable .ensures .tells .yes (by-if2 .taken)) (λ all. c .before .within .ensures .no (c .if3 .left) (productive-none (by-costs .ensures) all)))
+    refusing (refused-7 _ (by-shape .ensures .yes (by-if1 .taken) .shaped) (by-reachable .ensures .tells .yes (by-if2 .taken))
+    (λ all. c .before .within .ensures .no (c .if3 .left) (productive-none (by-costs .ensures) all)))
 
 within-requires-2 : tie.Need-within-requires-2
 within-requires-2 c κs =
@@ -78,7 +79,9 @@ returns-4 c =
     let by-reachable = c .before .before .before .before .before .before .before .before .before .before .before .before .before .before .before .reachable in
     let by-if1 = c .before .before .before .before .before .before .before .before .before .before .before .before .before .before .before .before .before .before .before .if1 in
     let by-shape = c .before .before .before .before .before .before .before .before .before .before .before .before .before .before .before .before .before .before .before .before .shape in
-    refusing (refused-8 _ (by-shape .ensures .yes (by-if1 .taken) .shaped) (by-reachable .ensures .tells .yes (by-if2 .taken)) (productive-all (by-costs .ensures) (by-within .ensures .yes (c .before .before .before .if3 .taken))) (λ all. c .before .within2 .ensures .no (c .if4 .left) (afford-none (by-costs .ensures) all)))
+    refusing (refused-8 _ (by-shape .ensures .yes (by-if1 .taken) .shaped) (by-reachable .ensures .tells .yes (by-if2 .taken))
+    (productive-all (by-costs .ensures) (by-within .ensures .yes (c .before .before .before .if3 .taken)))
+    (λ all. c .before .within2 .ensures .no (c .if4 .left) (afford-none (by-costs .ensures) all)))
 
 empties-requires : tie.Need-empties-requires
 empties-requires c κs =
@@ -103,8 +106,15 @@ predictable-requires c κs =
     let by-if2 = c .before .before .before .before .before .before .before .before .before .before .before .before .before .before .before .before .before .before .if2 in
     let by-reachable = c .before .before .before .before .before .before .before .before .before .before .before .before .before .before .before .before .before .before .before .before .reachable in
     let by-if1 = c .before .before .before .before .before .before .before .before .before .before .before .before .before .before .before .before .before .before .before .before .before .before .before .before .if1 in
-    let by-shape = c .before .before .before .before .before .before .before .before .before .before .before .before .before .before .before .before .before .before .before .before .before .before .before .before .before .shape in
-    (record { ready = by-shape .ensures .yes (by-if1 .taken); nulls = c .before .before .before .empties .ensures; size = c .predictable-arg3 .given .2 }, by-reachable .ensures .tells .yes (by-if2 .taken))
+    let by-shape = c .before .before .before .before .before .before .before .before .before .before .before .before .before .before .before .before .before .before .before .before .before .before .before .before .before .shape in (
+      record {
+        ready = by-shape .ensures .yes
+            (by-if1 .taken);
+        nulls = c .before .before .before .empties .ensures;
+        size = c .predictable-arg3 .given .2;
+      },
+      by-reachable .ensures .tells .yes (by-if2 .taken),
+    )
 
 same-length-3 : tie.Need-same-length-3
 same-length-3 c = search needs
@@ -123,7 +133,10 @@ returns-5 c =
     let by-reachable = c .before .before .before .before .before .before .before .before .before .before .before .before .before .before .before .before .before .before .before .before .before .before .before .before .reachable in
     let by-if1 = c .before .before .before .before .before .before .before .before .before .before .before .before .before .before .before .before .before .before .before .before .before .before .before .before .before .before .before .before .if1 in
     let by-shape = c .before .before .before .before .before .before .before .before .before .before .before .before .before .before .before .before .before .before .before .before .before .before .before .before .before .before .before .before .before .shape in
-    refusing (refused-9 _ (by-shape .ensures .yes (by-if1 .taken) .shaped) (by-reachable .ensures .tells .yes (by-if2 .taken)) (productive-all (by-costs .ensures) (by-within .ensures .yes (by-if3 .taken))) (afford-all (by-costs .ensures) (by-within2 .ensures .yes (by-if4 .taken))) (c .before .before .before .predictable .ensures .tells .no (c .if5 .left)))
+    refusing (refused-9 _ (by-shape .ensures .yes (by-if1 .taken) .shaped) (by-reachable .ensures .tells .yes (by-if2 .taken))
+    (productive-all (by-costs .ensures) (by-within .ensures .yes (by-if3 .taken)))
+    (afford-all (by-costs .ensures) (by-within2 .ensures .yes (by-if4 .taken)))
+    (c .before .before .before .predictable .ensures .tells .no (c .if5 .left)))
 
 slice-write-sets : tie.Need-slice-write-sets
 slice-write-sets c =
@@ -150,7 +163,20 @@ returns-6 c =
     let by-if1 = c .before .before .before .before .before .before .before .before .before .before .before .before .before .before .before .before .before .before .before .before .before .before .before .before .before .before .before .before .if1 in
     let by-shape = c .before .before .before .before .before .before .before .before .before .before .before .before .before .before .before .before .before .before .before .before .before .before .before .before .before .before .before .before .before .shape in
     let start = c .before .before .before .before .before .before .before .before .before .before .before .before .before .before .before .before .before .before .before .before .before .before .before .before .before .before .before .before .before .before .before .before .before .before in
-    let ready = by-shape .ensures .yes (by-if1 .taken) in let costed = by-costs .ensures in let limited = by-within2 .ensures .yes (by-if4 .taken) in let size = c .before .before .before .predictable .kept .1 .1 .1 .0 ∙ by-predictable-arg3 .given .2 in accepting (accepted _ (ready .shaped) (by-reachable .ensures .tells .yes (by-if2 .taken)) (productive-all costed (by-within .ensures .yes (by-if3 .taken))) (afford-all costed limited) (c .before .before .before .predictable .ensures .tells .yes (c .if5 .taken))) (record { ready = ready; costed = costed; limited = limited; exact = sets-filled (start .args .sets .now) _ _ (ready .shaped) (start .pre .1) size (c .before .before .before .predictable .ensures .exact) (by-empties .ensures) })
+    let ready = by-shape .ensures .yes (by-if1 .taken) in
+    let costed = by-costs .ensures in
+    let limited = by-within2 .ensures .yes (by-if4 .taken) in
+    let size = c .before .before .before .predictable .kept .1 .1 .1 .0 ∙ by-predictable-arg3 .given .2 in
+    accepting (accepted _ (ready .shaped) (by-reachable .ensures .tells .yes (by-if2 .taken))
+    (productive-all costed (by-within .ensures .yes (by-if3 .taken))) (afford-all costed limited)
+    (c .before .before .before .predictable .ensures .tells .yes (c .if5 .taken)))
+    (record {
+      ready = ready;
+      costed = costed;
+      limited = limited;
+      exact = sets-filled (start .args .sets .now) _ _ (ready .shaped)
+          (start .pre .1) size (c .before .before .before .predictable .ensures .exact) (by-empties .ensures);
+    })
 
 pub judge-spec : {M : Type 1} → statement M
 judge-spec =

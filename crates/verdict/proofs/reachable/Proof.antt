@@ -31,7 +31,12 @@ same-length c = search needs
 returns : tie.Need-returns
 returns c =
     let by-gather = c .before .before .before .before .before .before .gather in
-    let exact = reach-exact (by-gather .ensures .1) (c .before .reach .ensures) in record { gathered = by-gather .ensures .0; tells = tells-as (λ f k h. exact k .0 (f k h)) (λ f k h. exact k .1 (f k h)) (c .covers .ensures) }
+    let exact = reach-exact (by-gather .ensures .1) (c .before .reach .ensures) in
+    record {
+      gathered = by-gather .ensures .0;
+      tells = tells-as (λ f k h. exact k .0 (f k h)) (λ f k h. exact k .1 (f k h))
+          (c .covers .ensures);
+    }
 
 pub reachable-spec : {M : Type 1} → statement M
 reachable-spec =
