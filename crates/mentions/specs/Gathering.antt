@@ -1,6 +1,7 @@
 -- The tables, rule by rule.
 --     gather-begins, gather-goes, gather-ends   which rules mention a nonterminal
 --     use-begins, use-goes, use-ends            which nonterminals the rules of one mention
+--     mentions-one, uses-one                    both tables are one
 use Prim.Native.Nat.{ℕ, _+_, _*_, _/_, _%_, _^_, _≤_, _<_}
 use mathlib.Core.Path.{_≡_, refl, sym, ap, _∙_, subst}
 use mathlib.Core.Bool.{Bool, true}
@@ -8,13 +9,15 @@ use mathlib.Core.List.{List, List·Memᴰ}
 use mathlib.Core.Logic.{_⊎_, _↔_, inl, inr, ⊎-elim}
 use native.Mathlib.Omega.{arith}
 use lib.ListN.{length, getD}
+use lib.Seq.{ext-getD}
 use Rattle.base.specs.Choices.{below-or, below-or-at}
 use Rattle.grammar.specs.Words.{ruleCount, leftSide, rightSide, RuleSymbol, Shaped}
 use Rattle.grammar.specs.theory.Members.{all-at}
 use Rattle.grammar.specs.theory.RightSides.{right-symbols}
 use Rattle.shape.specs.Accessors.{LeftOf}
 use Rattle.sets.specs.Bits.{member}
-use Rattle.sets.specs.Laws.{empty-none, some-member}
+use Rattle.sets.specs.Laws.{empty-none, some-member, same-members}
+use Rattle.sets.specs.Taking.{member-below}
 use Rattle.growth.specs.Sums.{Blank}
 use Rattle.growth.specs.Added.{Added}
 use Rattle.mentions.specs.Mentions.{Mentions, InRow, Gathered, Uses, Used}
@@ -130,3 +133,43 @@ use-goes {ws} {p} {l} {named} {old} {new} u left m a =
 
 pub use-ends : {ws uses : List ℕ} {p n : ℕ} → Used ws p uses → p ≡ n → Used ws n uses
 use-ends {ws} {uses} u e = subst (λ m. Used ws m uses) e u
+
+-- ---- Only one answer
+
+module _ {ws one two : List ℕ} {p : ℕ} (f : Gathered ws p one) (g : Gathered ws p two) where
+  -- What stands in a row of one table stands there in the other.
+  also-in : (r q : ℕ) → r < 65 → q < 256 → InRow one r q → InRow two r q
+  also-in r q h i m =
+      ⊎-elim (λ named. g .named r q named i .1 (f .named r q named i .0 m))
+      (λ plain.
+      let last : r ≡ 64 = omega arith in
+      subst (λ n. InRow two n q) (sym last) (g .plain q i .1 (f .plain q i .0 (subst (λ n. InRow one n q) last m))))
+      (below-or r 64)
+
+  -- Bit b of word i is that of rule 64 * (i % 4) + b in row i / 4.
+  also-member : (i b : ℕ) → i < 260 → b < 64 → member (getD one i 0) b ≡ true → member (getD two i 0) b ≡ true
+  also-member i b h low m =
+      let q = 64 * (i % 4) + b in
+      let word : 4 * (i / 4) + q / 64 ≡ i = omega arith in
+      let bit : q % 64 ≡ b = omega arith in
+      let there = also-in (i / 4) q (omega arith) (omega arith)
+      (subst (λ n. member (getD one n 0) (q % 64) ≡ true) (sym word) (subst (λ n. member (getD one i 0) n ≡ true) (sym bit) m)) in
+      subst (λ n. member (getD two i 0) n ≡ true) bit (subst (λ n. member (getD two n 0) (q % 64) ≡ true) word there)
+
+pub mentions-one : {ws one two : List ℕ} {p : ℕ} → Gathered ws p one → Gathered ws p two → ((i : ℕ) → getD one i 0 < 2 ^ 64)
+    → ((i : ℕ) → getD two i 0 < 2 ^ 64) → one ≡ two
+mentions-one {one = one} {two} f g l m =
+    ext-getD 0 one two (f .size ∙ sym (g .size))
+    (λ i h.
+    let below : i < 260 = omega (arith, f .size) in
+    same-members 64 (getD one i 0) (getD two i 0) (l i) (m i)
+    (λ b x. also-member f g i b below (member-below (getD one i 0) b (l i) x) x)
+    (λ b x. also-member g f i b below (member-below (getD two i 0) b (m i) x) x))
+
+pub uses-one : {ws one two : List ℕ} {p : ℕ} → Used ws p one → Used ws p two → ((i : ℕ) → getD one i 0 < 2 ^ 64)
+    → ((i : ℕ) → getD two i 0 < 2 ^ 64) → one ≡ two
+uses-one {one = one} {two} f g l m =
+    ext-getD 0 one two (f .size ∙ sym (g .size))
+    (λ k h.
+    same-members 64 (getD one k 0) (getD two k 0) (l k) (m k)
+    (λ j x. g .exact k j .1 (f .exact k j .0 x)) (λ j x. f .exact k j .1 (g .exact k j .0 x)))

@@ -3,6 +3,7 @@
 --     without-less                               it is a smaller number
 --     least-of                                   the least number is that of the zeros below the lowest bit
 --     beyond-of                                  what is in a and not in b, by the complement of b
+--     least-one, beyond-one                      both are one
 use Prim.Native.Nat.{ℕ, zero, suc, _+_, _-_, _*_, _/_, _%_, _^_, _≤_, _<_}
 use mathlib.Core.Bool.{true}
 use mathlib.Core.Path.{_≡_, refl, sym, ap, _∙_, subst}
@@ -12,9 +13,10 @@ use native.Mathlib.Nat.{pow-suc, one-mul, mod-eq-of-lt}
 use lib.Bits.{bitAnd}
 use lib.Count.{trailingZeros, under}
 use lib.Pow.{pow-pos, pow-lt}
+use Rattle.base.specs.Choices.{below-or}
 use Rattle.sets.specs.Bits.{member}
 use Rattle.sets.specs.Operations.{without, Least, Beyond}
-use Rattle.sets.specs.Laws.{bit, bit-small, member-bit, bit-member, and-bit, bit-suc, bit-zero, zero-bit, bit-cases, half-below}
+use Rattle.sets.specs.Laws.{bit, bit-small, member-bit, bit-member, and-bit, bit-suc, bit-zero, zero-bit, bit-cases, half-below, same-members}
 
 -- ---- Without a number
 
@@ -166,3 +168,14 @@ beyond-of a b small low = record { exact = λ i. (forth i, back i) }
         omega
         (arith, and-bit a (2 ^ 64 - 1 - b) i, member-bit a i (h .0), complement-bit 64 b i low (member-below a i small (h .0))))
         (bit-cases b i _ refl))
+
+-- ---- Only one answer
+
+pub least-one : {s i j : ℕ} → Least s i → Least s j → i ≡ j
+least-one {s} {i} {j} a b =
+    ⊎-elim (λ less. absurd (b .least i less (a .held)))
+    (λ more. ⊎-elim (λ less. absurd (a .least j less (b .held))) (λ less. omega arith) (below-or j i)) (below-or i j)
+
+pub beyond-one : {a b r q : ℕ} → Beyond a b r → Beyond a b q → r < 2 ^ 64 → q < 2 ^ 64 → r ≡ q
+beyond-one {r = r} {q} f g l m =
+    same-members 64 r q l m (λ i h. g .exact i .1 (f .exact i .0 h)) (λ i h. f .exact i .1 (g .exact i .0 h))
