@@ -1,17 +1,16 @@
 -- The walk over a right side from its front to the first symbol that cannot be empty, which gives what can stand first to the left side.
-use Prim.Native.Nat.{ℕ, suc, _+_, _-_, _≤_, _<_}
+use Prim.Native.Nat.{ℕ, _+_, _-_, _≤_, _<_}
 use mathlib.Core.Path.{_≡_, refl, sym, ap, _∙_, subst}
 use mathlib.Core.Bool.{Bool, true, false, true≢false}
 use mathlib.Core.List.{List, [], _∷_}
 use mathlib.Core.Logic.{_⊎_, inl, inr, ⊎-elim}
 use native.Mathlib.Omega.{arith}
-use lib.ListN.{getD, drop, drop-of-length-le}
-use lib.Seq.{drop-cons}
+use lib.ListN.{getD, drop}
 use Rattle.grammar.specs.Words.{Terminal, ruleCount, rightSide}
 use Rattle.grammar.specs.Derivation.{First}
 use Rattle.grammar.specs.Grammar.{RuleOf}
 use Rattle.grammar.specs.theory.Firsts.{first-self}
-use Rattle.shape.specs.Accessors.{LeftOf, SizeOf, SymbolAt}
+use Rattle.shape.specs.Accessors.{LeftOf, SizeOf, SymbolAt, right-at, right-over}
 use Rattle.sets.specs.Bits.{member}
 use Rattle.sets.specs.Operations.{with}
 use Rattle.sets.specs.Laws.{empty-none, with-same, with-keeps, with-cases}
@@ -39,19 +38,14 @@ lead-begins b = record { begun = b; fed = λ j t m. m; kept = λ j t m. m; insid
 pub lead-at : {ws : List ℕ} {null p k i x n list : ℕ} {feeds₀ sets₀ feeds sets : List ℕ} → SizeOf ws p n → i < n → SymbolAt ws p i x
     → Leading ws null p k (drop i (rightSide ws p)) feeds₀ sets₀ feeds sets list
     → Leading ws null p k (x ∷ drop (i + 1) (rightSide ws p)) feeds₀ sets₀ feeds sets list
-lead-at {ws} {null} {p} {k} {i} {x} {list = list} {feeds₀} {sets₀} {feeds} {sets} size below at l =
-    let next : suc i ≡ i + 1 = omega arith in
-    subst (λ α. Leading ws null p k α feeds₀ sets₀ feeds sets list)
-    (drop-cons (rightSide ws p) i 0 (omega (arith, size .is))
-    ∙ (ap (λ Y. Y ∷ drop (suc i) (rightSide ws p)) (sym (at .is)) ∙ ap (λ n. x ∷ drop n (rightSide ws p)) next))
-    l
+lead-at {ws} {null} {p} {k} {list = list} {feeds₀} {sets₀} {feeds} {sets} size below at l =
+    subst (λ α. Leading ws null p k α feeds₀ sets₀ feeds sets list) (right-at size below at) l
 
 -- and behind the last one it has nothing.
 pub lead-none : {ws : List ℕ} {null p k i n list : ℕ} {feeds₀ sets₀ feeds sets : List ℕ} → SizeOf ws p n → n ≤ i
     → Leading ws null p k (drop i (rightSide ws p)) feeds₀ sets₀ feeds sets list → Leading ws null p k [] feeds₀ sets₀ feeds sets list
-lead-none {ws} {null} {p} {k} {i} {list = list} {feeds₀} {sets₀} {feeds} {sets} size over l =
-    subst (λ α. Leading ws null p k α feeds₀ sets₀ feeds sets list)
-    (drop-of-length-le (rightSide ws p) {i = i} (omega (arith, size .is))) l
+lead-none {ws} {null} {p} {k} {list = list} {feeds₀} {sets₀} {feeds} {sets} size over l =
+    subst (λ α. Leading ws null p k α feeds₀ sets₀ feeds sets list) (right-over size over) l
 
 module _
     {ws places table : List ℕ}

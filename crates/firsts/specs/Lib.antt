@@ -5,4 +5,5 @@ pub mod Corners
 pub mod Firsts
 pub mod Begun
 pub mod Leading
+pub mod Fronts
 pub mod Walk

@@ -1,4 +1,4 @@
--- What a walk over a list from its end finds, by a mask of nonterminals that can be empty and a table of FIRST masks.
+-- What a walk over a list finds, by a mask of nonterminals that can be empty and a table of FIRST masks.
 use Prim.Native.Nat.{ℕ, _-_, _^_, _≤_, _<_}
 use mathlib.Core.Path.{_≡_, sym, _∙_, subst}
 use mathlib.Core.Bool.{true, false, true≢false}
@@ -30,7 +30,7 @@ first-with-unique {r = r} {s = s} p q l m =
     same-members 64 r s l m (λ t h. q .exact t .1 (p .exact t .0 h)) (λ t h. p .exact t .1 (q .exact t .0 h))
 
 module _ (null : ℕ) (firsts : List ℕ) where
-  opens-nil : {base t : ℕ} → Opens null firsts base t [] → member base t ≡ true
+  pub opens-nil : {base t : ℕ} → Opens null firsts base t [] → member base t ≡ true
   opens-nil (Opens.behind h) = h
 
   -- The empty list gives what is behind it,

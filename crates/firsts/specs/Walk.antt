@@ -1,6 +1,6 @@
--- A walk over a right side from its end.
+-- A walk over a right side from its end: what begins the rest behind each symbol.
 use Prim.Native.Nat.{ℕ, _-_, _≤_, _<_}
-use mathlib.Core.Path.{_≡_, sym, subst}
+use mathlib.Core.Path.{sym, subst}
 use mathlib.Core.List.{List, [], _∷_}
 use native.Mathlib.Omega.{arith}
 use lib.ListN.{length, drop}
@@ -27,8 +27,3 @@ walk-goes {null = null} {firsts = firsts} {base = base} {r = r} w l at f =
       inside = omega (arith, w .inside);
       found = subst (λ α. FirstWith null firsts base α r) (sym (right-from l (w .inside) at)) (with-more null firsts (w .found) f);
     }
-
-pub walk-ends : {ws : List ℕ} {null : ℕ} {firsts : List ℕ} {p base i set : ℕ} → Walked ws null firsts p base i set → i ≡ 0
-    → FirstWith null firsts base (rightSide ws p) set
-walk-ends {ws} {null} {firsts} {p} {base} {i} {set} w e =
-    subst (λ n. FirstWith null firsts base (drop n (rightSide ws p)) set) e (w .found)

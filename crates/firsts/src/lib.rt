@@ -1,6 +1,6 @@
 // FIRST of each nonterminal and of each right side, as masks of tokens: exactly the sets by derivations.
-// For the nonterminals each rule is visited once, and then a list has those whose set must be passed on (request (v)). For FIRST of a
-// right side it is walked from its end, so that what is found so far is what stands behind the next symbol.
+// For the nonterminals each rule is visited once, and then a list has those whose set must be passed on (request (v)). For both a
+// right side is walked from its front, and no further than to its first symbol that cannot be empty.
 ghost use mathlib.Core.Path.{_≡_};
 ghost use mathlib.Core.List.{[], _∷_};
 ghost use Prim.Native.Nat.{_<_};
@@ -37,7 +37,8 @@ pub fn rule_firsts(words: &[u16], places: &[u16], null: u64, firsts: &[u64], out
     }
 }
 
-// The tokens that begin the right side of rule p by the table, with those of `base` where the right side can be empty.
+// The tokens that begin the right side of rule p by the table, with those of `base` where the right side can be empty. It is walked from
+// its front to the first symbol that cannot be empty.
 pub fn first_with(
     words: &[u16],
     places: &[u16],
@@ -50,14 +51,22 @@ pub fn first_with(
     requires { ⌜ p < ruleCount (now words) ⌝ }
     ensures { λ r. ⌜ FirstWith null (now (firsts .entry)) base (rightSide (now (words .entry)) p) r ⌝ }
 {
-    let mut set = base;
-    let mut i = shape::size_of(words, places, p);
-    while i > 0 {
-        i -= 1;
+    let size = shape::size_of(words, places, p);
+    let mut set = 0;
+    let mut i = 0;
+    while i < size {
         let x = shape::symbol_at(words, places, p, i);
-        set = pass(x, null, firsts, set);
+        if x < 64 {
+            return sets::with(set, x);
+        }
+        let k = x - 64;
+        set = sets::union(set, firsts[k as usize]);
+        if sets::has(null, k) {} else {
+            return set;
+        }
+        i += 1;
     }
-    set
+    sets::union(set, base)
 }
 
 // The tokens that begin symbol x by the table, with those of `behind` where x can be empty.

@@ -48,6 +48,18 @@ pub record SymbolAt (ws : List ℕ) (p i X : ℕ) : Type 0 where
   pub ranged : RuleSymbol (terminalCount ws) (nonterminalCount ws) X
   pub small : X < 128
 
+-- A right side from symbol i on has that one and what is behind it,
+pub right-at : {ws : List ℕ} {p n i X : ℕ} → SizeOf ws p n → i < n → SymbolAt ws p i X
+    → drop i (rightSide ws p) ≡ X ∷ drop (i + 1) (rightSide ws p)
+right-at {ws} {p} {n} {i} {X} size below at =
+    let next : suc i ≡ i + 1 = omega arith in
+    drop-cons (rightSide ws p) i 0 (omega (arith, size .is))
+    ∙ (ap (λ Y. Y ∷ drop (suc i) (rightSide ws p)) (sym (at .is)) ∙ ap (λ n. X ∷ drop n (rightSide ws p)) next)
+
+-- and behind its end it has nothing.
+pub right-over : {ws : List ℕ} {p n i : ℕ} → SizeOf ws p n → n ≤ i → drop i (rightSide ws p) ≡ []
+right-over {ws} {p} {i = i} size over = drop-of-length-le (rightSide ws p) {i = i} (omega (arith, size .is))
+
 -- A right side from its end on has nothing,
 pub right-none : {ws : List ℕ} {p n : ℕ} → SizeOf ws p n → drop n (rightSide ws p) ≡ []
 right-none {ws} {p} {n} size = drop-of-length-le (rightSide ws p) {i = n} (omega (arith, size .is))
