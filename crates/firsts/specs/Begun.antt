@@ -3,18 +3,19 @@
 --     begin-begins, begin-none, begin-goes, begin-ends   the rules
 --     begun-closed                                       what comes of it along the list is FIRST
 use Prim.Native.Nat.{ℕ, _+_, _-_, _≤_, _<_}
-use mathlib.Core.Path.{_≡_, ap, _∙_, subst}
+use mathlib.Core.Path.{_≡_, subst}
 use mathlib.Core.Bool.{true}
 use mathlib.Core.List.{List, [], _∷_}
 use mathlib.Core.Logic.{inl, inr}
 use native.Mathlib.Omega.{arith}
 use borrow.Author.Count.{below-more}
-use lib.ListN.{length, getD, replicate, length-replicate}
+use lib.ListN.{length, getD}
 use Rattle.grammar.specs.Words.{Terminal, ruleCount, leftSide, rightSide}
 use Rattle.grammar.specs.Derivation.{First}
 use Rattle.grammar.specs.Grammar.{RuleOf}
 use Rattle.sets.specs.Bits.{member}
-use Rattle.growth.specs.Added.{Kept, zeros-none}
+use Rattle.growth.specs.Sums.{Blank}
+use Rattle.growth.specs.Added.{Kept, blank-none}
 use Rattle.growth.specs.Closing.{Closing, Comes, Listed, closing-has}
 use Rattle.firsts.specs.Asked.{Asked}
 use Rattle.firsts.specs.Masks.{FirstsOf}
@@ -62,17 +63,13 @@ AllLed ws null = RulesLed ws null (ruleCount ws)
 -- ---- The rules
 
 -- Nothing is in empty tables.
-pub begin-begins : {ws : List ℕ} (feeds sets : List ℕ) (n : ℕ) → feeds ≡ replicate 64 0 → sets ≡ replicate n 0 → n ≡ 64
-    → Begun ws feeds sets 0
-begin-begins {ws} feeds sets n ef es size =
+pub begin-begins : {ws feeds sets : List ℕ} → Blank 64 feeds → Blank 64 sets → Begun ws feeds sets 0
+begin-begins f s =
     record {
-      size = ap length ef ∙ length-replicate {A = ℕ} 64 0;
-      sound = record {
-        size = ap length es ∙ (length-replicate n 0 ∙ size);
-        sound = λ k t h m. absurd (zeros-none n es k t m);
-      };
-      passes = λ j k t token m. absurd (zeros-none 64 ef j k m);
-      listed = λ j k m. absurd (zeros-none 64 ef j k m);
+      size = f .size;
+      sound = record { size = s .size; sound = λ k t h m. absurd (blank-none s k t m) };
+      passes = λ j k t token m. absurd (blank-none f j k m);
+      listed = λ j k m. absurd (blank-none f j k m);
     }
 
 pub begin-none : {ws : List ℕ} {null list : ℕ} {feeds sets : List ℕ} → Begun ws feeds sets list → RulesLed ws null 0 feeds sets list

@@ -3,13 +3,13 @@
 --     begin-begins, begin-none, begin-goes, begin-ends   the rules
 --     begun-closed                                       what comes of it along the list is FOLLOW
 use Prim.Native.Nat.{ℕ, _+_, _-_, _≤_, _<_}
-use mathlib.Core.Path.{_≡_, refl, sym, ap, _∙_, subst}
+use mathlib.Core.Path.{_≡_, refl, sym, _∙_, subst}
 use mathlib.Core.Bool.{Bool, true, false}
 use mathlib.Core.List.{List}
 use mathlib.Core.Logic.{_⊎_, inl, inr, ⊎-elim}
 use native.Mathlib.Omega.{arith}
 use borrow.Author.Count.{below-more}
-use lib.ListN.{length, getD, replicate, length-replicate}
+use lib.ListN.{length, getD}
 use Rattle.grammar.specs.Words.{END, Terminal, ruleCount, leftSide, rightSide}
 use Rattle.grammar.specs.Derivation.{All, Follow}
 use Rattle.grammar.specs.Grammar.{RuleOf, startOverEnd}
@@ -17,7 +17,8 @@ use Rattle.shape.specs.Accessors.{LeftOf}
 use Rattle.sets.specs.Bits.{member}
 use Rattle.sets.specs.Operations.{with}
 use Rattle.sets.specs.Laws.{with-same, with-keeps}
-use Rattle.growth.specs.Added.{Added, zeros-none}
+use Rattle.growth.specs.Sums.{Blank}
+use Rattle.growth.specs.Added.{Added, blank-none}
 use Rattle.growth.specs.Closing.{Closing, Comes, Listed, Noted, closing-has}
 use Rattle.firsts.specs.Opens.{Opens}
 use Rattle.firsts.specs.Masks.{number-symbol}
@@ -52,13 +53,13 @@ AllFed ws null firsts = RulesFed ws null firsts (ruleCount ws)
 -- ---- The rules
 
 -- Nothing feeds another at first.
-pub begin-begins : {ws : List ℕ} (feeds : List ℕ) {sets : List ℕ} → feeds ≡ replicate 64 0 → SoundFollows ws sets → Begun ws feeds sets 0
-begin-begins feeds e s =
+pub begin-begins : {ws feeds sets : List ℕ} → Blank 64 feeds → SoundFollows ws sets → Begun ws feeds sets 0
+begin-begins f s =
     record {
-      size = ap length e ∙ length-replicate {A = ℕ} 64 0;
+      size = f .size;
       sound = s;
-      passes = λ k j t m. absurd (zeros-none 64 e k j m);
-      listed = λ k j m. absurd (zeros-none 64 e k j m);
+      passes = λ k j t m. absurd (blank-none f k j m);
+      listed = λ k j m. absurd (blank-none f k j m);
     }
 
 pub begin-none : {ws : List ℕ} {null : ℕ} {firsts : List ℕ} {list : ℕ} {feeds sets : List ℕ} → Begun ws feeds sets list

@@ -5,7 +5,7 @@ use mathlib.Core.Bool.{Bool, true}
 use mathlib.Core.List.{List, [], _∷_, _++_}
 use mathlib.Core.Logic.{⊎-elim}
 use native.Mathlib.Omega.{arith}
-use lib.ListN.{length, getD, take, drop, replicate, length-replicate, take-append-drop}
+use lib.ListN.{length, getD, take, drop, take-append-drop}
 use Rattle.grammar.specs.Words.{START, END, Terminal, terminalCount, nonterminalCount, ruleCount, leftSide, rightSide, RuleSymbol}
 use Rattle.grammar.specs.Words.{word, rulePlace}
 use Rattle.grammar.specs.Derivation.{All, Derives, Follow, Reachable}
@@ -16,7 +16,8 @@ use Rattle.shape.specs.Accessors.{SizeOf, SymbolAt, right-none, right-from}
 use Rattle.sets.specs.Bits.{member}
 use Rattle.sets.specs.Operations.{with}
 use Rattle.sets.specs.Laws.{empty-none, with-same, with-cases}
-use Rattle.growth.specs.Added.{Added, Kept, zeros-none}
+use Rattle.growth.specs.Sums.{Blank}
+use Rattle.growth.specs.Added.{Added, Kept, blank-none}
 use Rattle.firsts.specs.Opens.{Opens, FirstWith}
 use Rattle.firsts.specs.Masks.{opens-exact}
 use Rattle.firsts.specs.Walk.{Walked, walk-begins, walk-goes}
@@ -142,13 +143,13 @@ feeding-ends {ws} {null} {firsts} {p} {new = new} w e =
     }
 
 -- The first table: END follows START.
-pub follows-begin : {ws old new : List ℕ} {mask : ℕ} {changed : Bool} (n : ℕ) → old ≡ replicate n 0 → n ≡ 64 → mask ≡ with 0 END
-    → Added old 0 mask new changed → SoundFollows ws new
-follows-begin {ws} {old} {new} {mask} n zeros e single a =
+pub follows-begin : {ws old new : List ℕ} {mask : ℕ} {changed : Bool} → Blank 64 old → mask ≡ with 0 END → Added old 0 mask new changed
+    → SoundFollows ws new
+follows-begin {ws} blank single a =
     record {
-      size = a .same ∙ (ap length zeros ∙ (length-replicate n 0 ∙ e));
+      size = a .same ∙ blank .size;
       sound = λ k t token m.
-          ⊎-elim (λ h. absurd (zeros-none n zeros k t h))
+          ⊎-elim (λ h. absurd (blank-none blank k t h))
           (λ c.
           ⊎-elim (λ i. begins k t token (c .0) i) (λ h. absurd (empty-none t h))
           (with-cases 0 END t (subst (λ z. member z t ≡ true) single (c .1))))

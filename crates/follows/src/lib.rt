@@ -6,6 +6,7 @@ ghost use Prim.Native.Nat.{_<_};
 ghost use lib.ListN.{length};
 ghost use Rattle.grammar.specs.Words.{rightSide, ruleCount};
 ghost use Rattle.shape.specs.Ready.{Ready};
+ghost use Rattle.growth.specs.Sums.{Blank};
 ghost use Rattle.follows.specs.Follows.{FollowsOf, Needed, SoundFollows};
 ghost use Rattle.follows.specs.Feeding.{AddedBehind, Tailed};
 ghost use Rattle.follows.specs.Lasts.{LastsOf};
@@ -14,10 +15,10 @@ ghost use Rattle.follows.specs.Begun.{AllFed, Begun};
 // FOLLOW of each nonterminal: what begins the rest behind it in a right side, and FOLLOW of the left side where it can stand last there.
 pub fn follows(words: &[u16], places: &[u16], null: u64, firsts: &[u64], out: &mut [u64])
     requires { ⌜ Needed (now words) (now places) null (now firsts) (now out) ⌝ }
+    requires { ⌜ Blank 64 (now out) ⌝ }
     ensures { λ _. ⌜ FollowsOf (now (words .entry)) (now (out .exit)) ⌝ }
 {
     let mut feeds = [0u64; 64];
-    base::clear_numbers(out);
     growth::add_to(out, 0, sets::with(0, 0));
     let list = begin(words, places, null, firsts, &mut feeds, out);
     growth::close(&feeds, list, out);

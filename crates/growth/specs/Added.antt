@@ -5,21 +5,21 @@ use mathlib.Core.Bool.{Bool, true, false, true≢false, false≢true}
 use mathlib.Core.List.{List}
 use mathlib.Core.Logic.{_⊎_, inl, inr, ⊎-elim}
 use native.Mathlib.Omega.{arith}
-use lib.ListN.{length, getD, set, replicate, length-set}
+use lib.ListN.{length, getD, set, length-set}
 use lib.Seq.{ext-getD, getD-set-same, getD-set-other}
 use Rattle.base.specs.Choices.{same-or}
 use Rattle.sets.specs.Bits.{member}
 use Rattle.sets.specs.Operations.{union}
 use Rattle.sets.specs.Laws.{empty-none, union-left, union-right, union-cases, union-grows, union-unchanged, same-members}
-use Rattle.growth.specs.Sums.{sum, sum-set, all-zero}
+use Rattle.growth.specs.Sums.{sum, sum-set, Blank}
 
 -- Nothing is lost.
 abbrev pub Kept : List ℕ → List ℕ → Type 0
 Kept old new = (j t : ℕ) → member (getD old j 0) t ≡ true → member (getD new j 0) t ≡ true
 
 -- Nothing is in sets that are all 0.
-pub zeros-none : (n : ℕ) {l : List ℕ} → l ≡ replicate n 0 → (k t : ℕ) → member (getD l k 0) t ≡ true → ⊥
-zeros-none n e k t m = empty-none t (subst (λ s. member s t ≡ true) (ap (λ r. getD r k 0) e ∙ all-zero n k) m)
+pub blank-none : {n : ℕ} {l : List ℕ} → Blank n l → (k t : ℕ) → member (getD l k 0) t ≡ true → ⊥
+blank-none b k t m = empty-none t (subst (λ s. member s t ≡ true) (b .zeros k) m)
 
 -- The members of `mask` were added to set k, and nothing else; `changed` tells whether one of them was not there.
 pub record Added (old : List ℕ) (k mask : ℕ) (new : List ℕ) (changed : Bool) : Type 0 where

@@ -50,13 +50,16 @@ all-zero zero k = refl
 all-zero (suc n) zero = refl
 all-zero (suc n) (suc k) = all-zero n k
 
--- So many numbers, all 0; and a list that was just made.
+-- So many numbers, all 0; a list that was just made; and one that was cleared.
 pub record Blank (n : ℕ) (l : List ℕ) : Type 0 where
   pub size : length l ≡ n
   pub zeros : (i : ℕ) → getD l i 0 ≡ 0
 
 pub blank-made : (n : ℕ) → Blank n (replicate n 0)
 blank-made n = record { size = length-replicate {A = ℕ} n 0; zeros = all-zero n }
+
+pub blank-cleared : {l : List ℕ} {n m : ℕ} → l ≡ replicate n 0 → n ≡ m → Blank m l
+blank-cleared {l} {n} e same = subst (λ k. Blank k l) same (subst (Blank n) (sym e) (blank-made n))
 
 -- Loops end: the sum of 64 sets stays below 64 * 2 ^ 64.
 pub sum-below : (l : List ℕ) → length l ≡ 64 → ((i : ℕ) → Fits w64 (getD l i 0)) → sum l ≤ 64 * 2 ^ 64

@@ -5,7 +5,7 @@ use mathlib.Core.Bool.{Bool, true}
 use mathlib.Core.List.{List}
 use mathlib.Core.Logic.{_⊎_, inl, inr, ⊎-elim}
 use native.Mathlib.Omega.{arith}
-use lib.ListN.{getD, replicate}
+use lib.ListN.{getD}
 use Rattle.base.specs.Choices.{below-or-at}
 use Rattle.grammar.specs.Words.{Terminal, ruleCount, leftSide, rightSide}
 use Rattle.grammar.specs.Derivation.{Predict, NoneShared}
@@ -14,9 +14,8 @@ use Rattle.grammar.specs.theory.RightSides.{rule-at}
 use Rattle.shape.specs.Accessors.{LeftOf}
 use Rattle.sets.specs.Bits.{member}
 use Rattle.sets.specs.Operations.{Shared}
-use Rattle.sets.specs.Laws.{empty-none}
-use Rattle.growth.specs.Sums.{all-zero}
-use Rattle.growth.specs.Added.{Added}
+use Rattle.growth.specs.Sums.{Blank}
+use Rattle.growth.specs.Added.{Added, blank-none}
 use Rattle.predicts.specs.Predicts.{PredictRule, PredictMask}
 
 -- A rule before rule p of nonterminal k that predicts t.
@@ -33,11 +32,11 @@ pub record Seen (ws : List ℕ) (p : ℕ) (seen : List ℕ) : Type 0 where
   pub held : (q k t : ℕ) → q < p → leftSide ws q ≡ 64 + k → PredictRule ws q t → member (getD seen k 0) t ≡ true
   pub apart : (q r t : ℕ) → q < p → r < p → leftSide ws q ≡ leftSide ws r → PredictRule ws q t → PredictRule ws r t → q ≡ r
 
-pub seen-begins : (ws old : List ℕ) (n : ℕ) → old ≡ replicate n 0 → Seen ws 0 old
-seen-begins ws old n zeros =
+pub seen-begins : {ws old : List ℕ} → Blank 64 old → Seen ws 0 old
+seen-begins b =
     record {
       inside = omega arith;
-      said = λ k t l m. absurd (empty-none t (subst (λ s. member s t ≡ true) (ap (λ r. getD r k 0) zeros ∙ all-zero n k) m));
+      said = λ k t l m. absurd (blank-none b k t m);
       held = λ q k t h. absurd (omega arith);
       apart = λ q r t h. absurd (omega arith);
     }

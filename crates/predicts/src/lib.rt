@@ -1,14 +1,14 @@
 // The predict test, refusal 9: no two rules of one nonterminal share a predict token.
-ghost use mathlib.Core.Path.{_≡_};
 ghost use Prim.Native.Nat.{_<_};
-ghost use lib.ListN.{length};
 ghost use Rattle.grammar.specs.Words.{ruleCount};
 ghost use Rattle.grammar.specs.Derivation.{NoneShared};
 ghost use Rattle.grammar.specs.Grammar.{RuleOf, startOverEnd};
 ghost use Rattle.base.specs.Telling.{Tells};
+ghost use Rattle.growth.specs.Sums.{Blank};
 ghost use Rattle.predicts.specs.Predicts.{Known, PredictMask};
 
-// No two rules of one nonterminal share a predict token. `seen` is room for the union of each nonterminal's rules so far.
+// No two rules of one nonterminal share a predict token. `seen` has the union of each nonterminal's rules so far,
+// and nothing at first.
 pub fn none_shared(
     words: &[u16],
     places: &[u16],
@@ -18,10 +18,9 @@ pub fn none_shared(
     seen: &mut [u64],
 ) -> bool
     requires { ⌜ Known (now words) (now places) null (now firsts) (now follows) ⌝ }
-    requires { ⌜ length (now seen) ≡ 64 ⌝ }
+    requires { ⌜ Blank 64 (now seen) ⌝ }
     ensures { λ r. ⌜ Tells (NoneShared (RuleOf (now (words .entry))) startOverEnd) r ⌝ }
 {
-    base::clear_numbers(seen);
     let count = shape::rule_count(words);
     let mut p = 0;
     while p < count {

@@ -1,6 +1,5 @@
 -- `firsts::firsts` meets its contract: the pass begins with empty tables, and what comes of it along the list is FIRST (`begun-closed`).
-use mathlib.Core.Path.{refl}
-use lib.ListN.{length}
+use Rattle.growth.specs.Sums.{blank-made, blank-cleared}
 use Rattle.firsts.specs.Begun.{begin-begins, begun-closed}
 use borrow.Author.Needs.{needs}
 use Rattle.firsts.proofs.firsts.Statement.{statement}
@@ -16,7 +15,7 @@ begin-requires : tie.Need-begin-requires
 begin-requires c κs =
     let start = c .before .before .before .before .before .before .before .before .before in
     let clear-numbers = c .before .before .before .before .clear-numbers in
-    let begun = begin-begins _ _ (length (start .args .out .now)) refl (clear-numbers .ensures) (start .pre .size) in
+    let begun = begin-begins (blank-made 64) (blank-cleared (clear-numbers .ensures) (start .pre .size)) in
     (record { ready = start .pre .ready; nulls = start .pre .nulls; size = begun .sound .size }, begun)
 
 slice-aggregate-close : tie.Need-slice-aggregate-close

@@ -2,8 +2,8 @@
 use borrow.Author.Needs.{needs}
 use native.Mathlib.Omega.{arith}
 use Prim.Native.Nat.{_-_}
-use mathlib.Core.Path.{_≡_, sym, ap, _∙_}
-use lib.ListN.{length, length-replicate}
+use mathlib.Core.Path.{_≡_, sym, _∙_}
+use lib.ListN.{length}
 use Rattle.base.specs.Telling.{told, denied}
 use Rattle.predicts.specs.Seen.{Seen, seen-begins, seen-goes, seen-fails, seen-ends}
 use Rattle.predicts.proofs.none_shared.Statement.{statement}
@@ -15,33 +15,25 @@ Inv-loop words places null firsts follows seen₀ count p₀ seen p = (length se
 abbrev μ-loop : tie.MeasureT-loop
 μ-loop words places null firsts follows seen₀ count p₀ seen p = count - p
 
-clear-numbers-requires : tie.Need-clear-numbers-requires Inv-loop μ-loop
-clear-numbers-requires c κs = search needs
-
 rule-count-requires : tie.Need-rule-count-requires Inv-loop μ-loop
-rule-count-requires c κs = c .before .before .before .before .before .before .before .before .before .pre .0 .asked .ready .shaped
+rule-count-requires c κs = c .before .before .before .before .before .pre .0 .asked .ready .shaped
 
 loop-holds : tie.Need-loop-holds Inv-loop μ-loop
 loop-holds c =
-    let clear = c .before .before .before .clear-numbers in
-    let start = c .before .before .before .before .before .before .before .before .before .before in (
-      ap length (clear .ensures) ∙ (length-replicate _ _ ∙ start .pre .1),
-      seen-begins _ _ (length (start .args .seen .now))
-          (clear .ensures),
-    )
+    let start = c .before .before .before .before .before .before in
+    (start .pre .1 .size, seen-begins (start .pre .1))
 
 predict-requires : tie.Need-predict-requires Inv-loop μ-loop
 predict-requires c κs =
     let rule-count = c .before .before .rule-count in
-    let start = c .before .before .before .before .before .before .before .before .before .before .before .before in
+    let start = c .before .before .before .before .before .before .before .before in
     let n = rule-count .ensures in
     (start .pre .0, omega arith)
 
 left-of-requires : tie.Need-left-of-requires Inv-loop μ-loop
 left-of-requires c κs =
     let rule-count = c .before .before .before .rule-count in
-    let turn = c .before .before .before .before .before .before .before .before .before .before in
-    let start = turn .before .before .before in
+    let start = c .before .before .before .before .before .before .before .before .before in
     let n = rule-count .ensures in
     (start .pre .0 .asked .ready, omega (arith, c .before .loop-test .taken))
 
@@ -59,10 +51,9 @@ shared-requires c κs = search needs
 
 same-length : tie.Need-same-length Inv-loop μ-loop
 same-length c =
-    let loop = c .before .before .before .before .before .before .loop in
-    let turn = c .before .before .before .before .before .before .before .before .before .before in
+    let turn = c .before .before .before .before .before .before in
     let start = turn .before .before .before .before .before .before .before in
-    loop .inv .0 ∙ sym (start .pre .1)
+    turn .loop .inv .0 ∙ sym (start .pre .1 .size)
 
 returns : tie.Need-returns Inv-loop μ-loop
 returns c =
@@ -83,11 +74,10 @@ add-to-requires c κs =
 
 add-p : tie.Need-add-p Inv-loop μ-loop
 add-p c =
-    let rule-count = c .before .before .before .before .before .before .before .before .before .before .before .rule-count in
     let loop-test = c .before .before .before .before .before .before .before .before .before .loop-test in
     let turn = c .before .before .before .before .before .before .before .before .before .before in
-    let start = turn .before .before .before .before .before .before .before .before .before .before .before in
-    let n = rule-count .ensures in
+    let start = turn .before .before .before .before .before .before .before in
+    let n = turn .before .rule-count .ensures in
     omega (arith, loop-test .taken, start .pre .0 .asked .ready .shaped .rules-high)
 
 loop-less : tie.Need-loop-less Inv-loop μ-loop
@@ -111,8 +101,8 @@ loop-again c =
 
 same-length-2 : tie.Need-same-length-2 Inv-loop μ-loop
 same-length-2 c =
-    let start = c .before .before .before .before .before .before .before .before .before .before .before .before in
-    c .before .loop .inv .0 ∙ sym (start .pre .1)
+    let start = c .before .before .before .before .before .before .before .before in
+    c .before .loop .inv .0 ∙ sym (start .pre .1 .size)
 
 returns-2 : tie.Need-returns-2 Inv-loop μ-loop
 returns-2 c = let n = c .before .before .rule-count .ensures in told (seen-ends (c .before .loop .inv .1) (omega arith))
@@ -120,5 +110,5 @@ returns-2 c = let n = c .before .before .rule-count .ensures in told (seen-ends 
 pub none-shared-spec : {M : Type 1} → statement M
 none-shared-spec =
     tie.close
-    (tie.spec Inv-loop μ-loop clear-numbers-requires rule-count-requires loop-holds predict-requires left-of-requires cast-k mul-shared
+    (tie.spec Inv-loop μ-loop rule-count-requires loop-holds predict-requires left-of-requires cast-k mul-shared
     slice-read-shared shared-requires same-length returns add-to-requires add-p loop-less loop-again same-length-2 returns-2)
