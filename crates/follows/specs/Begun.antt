@@ -40,6 +40,11 @@ abbrev pub FeedsLasts : List ℕ → ℕ → ℕ → List ℕ → Type 0
 FeedsLasts ws null p feeds =
     (k j : ℕ) → leftSide ws p ≡ 64 + k → Last null (64 + j) (rightSide ws p) → member (getD feeds k 0) j ≡ true
 
+-- What a rule does: its nonterminals have what begins the rest behind them, and r has those that can stand last.
+pub record RuleFed (ws : List ℕ) (null : ℕ) (firsts : List ℕ) (p : ℕ) (old new : List ℕ) (r : ℕ) : Type 0 where
+  pub tailed : Tailed ws null firsts p old new
+  pub lasts : LastsOf null (rightSide ws p) r
+
 -- What the rules in front of p do.
 pub record RulesFed (ws : List ℕ) (null : ℕ) (firsts : List ℕ) (p : ℕ) (feeds sets : List ℕ) (list : ℕ) : Type 0 where
   pub begun : Begun ws feeds sets list
@@ -68,12 +73,12 @@ begin-none b = record { begun = b; tails = λ q h. absurd (omega arith); lasts =
 
 pub begin-goes : {ws places table : List ℕ} {null : ℕ} {firsts : List ℕ} {p k mask list more : ℕ} {feeds feeds′ sets sets′ : List ℕ}
     {b : Bool} → Needed ws places null firsts table → RulesFed ws null firsts p feeds sets list → p < ruleCount ws
-    → Tailed ws null firsts p sets sets′ → LeftOf ws p k → LastsOf null (rightSide ws p) mask → Added feeds k mask feeds′ b
-    → Noted list k b more → RulesFed ws null firsts (p + 1) feeds′ sets′ more
-begin-goes {ws} {null = null} {firsts} {p} {k} {mask} {list} {more} {feeds} {feeds′} {sets′ = sets′} {b} need o h tailed left last a note =
+    → RuleFed ws null firsts p sets sets′ mask → LeftOf ws p k → Added feeds k mask feeds′ b → Noted list k b more
+    → RulesFed ws null firsts (p + 1) feeds′ sets′ more
+begin-goes {ws} {null = null} {firsts} {p} {k} {mask} {list} {more} {feeds} {feeds′} {sets′ = sets′} {b} need o h rule left a note =
     record {
-      begun = record { size = a .same ∙ o .begun .size; sound = tailed .sound; passes = passes; listed = listed b refl };
-      tails = below-more (λ q. Tails ws null firsts q sets′) p (λ q i t. fed-kept (tailed .kept) (o .tails q i t)) (tailed .tails);
+      begun = record { size = a .same ∙ o .begun .size; sound = rule .tailed .sound; passes = passes; listed = listed b refl };
+      tails = below-more (λ q. Tails ws null firsts q sets′) p (λ q i t. fed-kept (rule .tailed .kept) (o .tails q i t)) (rule .tailed .tails);
       lasts = below-more (λ q. FeedsLasts ws null q feeds′) p (λ q i n j e l. a .keeps n j (o .lasts q i n j e l)) here;
     }
   where
@@ -82,7 +87,7 @@ begin-goes {ws} {null = null} {firsts} {p} {k} {mask} {list} {more} {feeds} {fee
     passes n j t m f =
         ⊎-elim (λ i. o .begun .passes n j t i f)
         (λ c.
-        last-follow ws (need .asked .ready .shaped) null (need .asked .nulls) h left (last .exact j .0 (c .1))
+        last-follow ws (need .asked .ready .shaped) null (need .asked .nulls) h left (rule .lasts .exact j .0 (c .1))
         (subst (λ i. Follow (RuleOf ws) startOverEnd (64 + i) t) (c .0) f))
         (a .source n j m)
 
@@ -99,7 +104,7 @@ begin-goes {ws} {null = null} {firsts} {p} {k} {mask} {list} {more} {feeds} {fee
     here : FeedsLasts ws null p feeds′
     here n j e l =
         let same : k ≡ n = omega (arith, left .names) in
-        subst (λ i. member (getD feeds′ i 0) j ≡ true) same (a .holds j (last .exact j .1 l))
+        subst (λ i. member (getD feeds′ i 0) j ≡ true) same (a .holds j (rule .lasts .exact j .1 l))
 
 pub begin-ends : {ws : List ℕ} {null : ℕ} {firsts : List ℕ} {p n list : ℕ} {feeds sets : List ℕ} → RulesFed ws null firsts p feeds sets list
     → n ≤ p → RulesFed ws null firsts n feeds sets list

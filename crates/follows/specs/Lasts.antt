@@ -1,12 +1,12 @@
 -- The nonterminals that can stand last in a right side, by the mask of nonterminals that can be empty: what follows the left side follows
--- them. The walk goes from the end to the first symbol that cannot be empty.
+-- them. The walk from the end notes each nonterminal behind which all can be empty.
 use Prim.Native.Nat.{ℕ, _+_, _-_, _≤_, _<_}
-use mathlib.Core.Path.{_≡_, sym, ap, _∙_, subst}
-use mathlib.Core.Bool.{true, false, true≢false}
+use mathlib.Core.Path.{_≡_, refl, sym, ap, _∙_, subst}
+use mathlib.Core.Bool.{Bool, true, false}
 use mathlib.Core.List.{List, [], _∷_, _++_}
 use mathlib.Core.Logic.{_↔_, ⊎-elim}
 use native.Mathlib.Omega.{arith}
-use lib.ListN.{length, take, drop, take-append-drop}
+use lib.ListN.{length, drop}
 use Rattle.grammar.specs.theory.Masks.{NullMask}
 use Rattle.grammar.specs.Words.{terminalCount, nonterminalCount, ruleCount, rightSide, RuleSymbol, Shaped}
 use Rattle.grammar.specs.Derivation.{All, Follow}
@@ -16,9 +16,11 @@ use Rattle.grammar.specs.theory.Firsts.{Fades, all-empty}
 use Rattle.grammar.specs.theory.Follows.{follow-last}
 use Rattle.grammar.specs.theory.RightSides.{right-symbols, rule-at}
 use Rattle.shape.specs.Accessors.{LeftOf, SizeOf, SymbolAt, right-none, right-from}
+use Rattle.base.specs.Telling.{Tells, told, tells-unique}
 use Rattle.sets.specs.Bits.{member}
 use Rattle.sets.specs.Operations.{with}
 use Rattle.sets.specs.Laws.{empty-none, with-same, with-keeps, with-cases}
+use Rattle.growth.specs.Closing.{Noted}
 use Rattle.firsts.specs.Masks.{number-symbol, null-says}
 
 -- X can be empty, by the mask.
@@ -85,68 +87,52 @@ lasts-name {null} {x} {r} {α} high a f = record { exact = λ j. (forth j, back 
         let at : x - 64 ≡ j = omega arith in subst (λ n. member (with r (x - 64)) n ≡ true) at (with-same r (x - 64))
     back j (Last.later l) = with-keeps r (x - 64) j (f .exact j .1 l)
 
--- In front of a symbol that cannot be empty nothing can stand last.
-lasts-cut : {null x r : ℕ} (φ : List ℕ) {α β : List ℕ} → (NullBy null x → ⊥) → β ≡ φ ++ (x ∷ α) → LastsOf null (x ∷ α) r
-    → LastsOf null β r
-lasts-cut {null} {x} {r} φ {α} {β} stays e f =
+-- In front of what cannot be empty nothing more can stand last.
+lasts-behind : {null x r : ℕ} {α : List ℕ} → (All (NullBy null) α → ⊥) → LastsOf null α r → LastsOf null (x ∷ α) r
+lasts-behind {null} {x} {r} {α} stays f = record { exact = λ j. (λ m. Last.later (f .exact j .0 m), back j) }
+  where
+    back : (j : ℕ) → Last null (64 + j) (x ∷ α) → member r j ≡ true
+    back j (Last.here e a) = absurd (stays a)
+    back j (Last.later l) = f .exact j .1 l
+
+-- The walk has come to the rest α: `set` has what can stand last there, and `ends` tells whether all of it can be empty.
+pub record Lasting (null : ℕ) (α : List ℕ) (set : ℕ) (ends : Bool) : Type 0 where
+  pub lasts : LastsOf null α set
+  pub empties : Tells (All (NullBy null) α) ends
+
+-- Symbol x was noted as one that can stand last, where it is a nonterminal and `ends` tells so.
+pub data NotedLast (old x : ℕ) (ends : Bool) (new : ℕ) : Type 0 where
+  terminal : x < 64 → new ≡ old → NotedLast old x ends new
+  nonterminal : 64 ≤ x → Noted old (x - 64) ends new → NotedLast old x ends new
+
+pub lasting-begins : {ws : List ℕ} {p n : ℕ} (null : ℕ) → SizeOf ws p n → Lasting null (drop n (rightSide ws p)) 0 true
+lasting-begins null size =
+    subst (λ α. Lasting null α 0 true) (sym (right-none size)) (record { lasts = lasts-none null; empties = told All.nothing })
+
+lasting-more : {null x set more : ℕ} {ends next : Bool} {α : List ℕ} → Lasting null α set ends → NotedLast set x ends more
+    → Tells (NullBy null x × (ends ≡ true)) next → Lasting null (x ∷ α) more next
+lasting-more {null} {x} {set} {more} {ends} {next} {α} w noted tells =
     record {
-      exact = λ j. (
-        λ m. subst (Last null (64 + j)) (sym e) (behind φ (f .exact j .0 m)),
-        λ l. f .exact j .1 (cut φ (subst (Last null (64 + j)) e l)),
-      );
+      lasts = lasts noted;
+      empties = record { yes = λ e. let q = tells .yes e in All.also (q .0) (w .empties .yes (q .1)); no = λ e a. tells .no e (both a) };
     }
   where
-    behind : {X : ℕ} (φ : List ℕ) → Last null X (x ∷ α) → Last null X (φ ++ (x ∷ α))
-    behind [] l = l
-    behind (Y ∷ φ) l = Last.later (behind φ l)
+    both : All (NullBy null) (x ∷ α) → NullBy null x × (ends ≡ true)
+    both (All.also n a) = (n, sym (tells-unique true ends (told a) (w .empties)))
 
-    head : {γ : List ℕ} → All (NullBy null) (x ∷ γ) → ⊥
-    head (All.also n a) = stays n
+    name : (yes : Bool) → ends ≡ yes → 64 ≤ x → Noted set (x - 64) ends more → LastsOf null (x ∷ α) more
+    name true e high n = subst (LastsOf null (x ∷ α)) (sym (n .noted e)) (lasts-name high (w .empties .yes e) (w .lasts))
+    name false e high n = subst (LastsOf null (x ∷ α)) (sym (n .same e)) (lasts-behind (w .empties .no e) (w .lasts))
 
-    cut : {X : ℕ} (φ : List ℕ) → Last null X (φ ++ (x ∷ α)) → Last null X (x ∷ α)
-    cut [] l = l
-    cut (Y ∷ φ) (Last.here e a) = absurd (head (all-rest φ a))
-    cut (Y ∷ φ) (Last.later l) = cut φ l
+    lasts : NotedLast set x ends more → LastsOf null (x ∷ α) more
+    lasts (NotedLast.terminal low e) = subst (LastsOf null (x ∷ α)) (sym e) (lasts-token low (w .lasts))
+    lasts (NotedLast.nonterminal high n) = name ends refl high n
 
--- The walk has come to symbol i: from there on all can be empty, and `set` has what can stand last there.
-pub record Ending (ws : List ℕ) (null p i set : ℕ) : Type 0 where
-  pub inside : i ≤ length (rightSide ws p)
-  pub empties : All (NullBy null) (drop i (rightSide ws p))
-  pub lasts : LastsOf null (drop i (rightSide ws p)) set
+pub lasting-goes : {ws : List ℕ} {null p i x set more : ℕ} {ends next : Bool} → Lasting null (drop i (rightSide ws p)) set ends → 0 < i
+    → i ≤ length (rightSide ws p) → SymbolAt ws p (i - 1) x → NotedLast set x ends more → Tells (NullBy null x × (ends ≡ true)) next
+    → Lasting null (drop (i - 1) (rightSide ws p)) more next
+lasting-goes {null = null} {more = more} {next = next} w l inside at noted tells =
+    subst (λ α. Lasting null α more next) (sym (right-from l inside at)) (lasting-more w noted tells)
 
-pub ending-begins : {ws : List ℕ} {p n : ℕ} (null : ℕ) → SizeOf ws p n → Ending ws null p n 0
-ending-begins null size =
-    record {
-      inside = omega (arith, size .is);
-      empties = subst (All (NullBy null)) (sym (right-none size)) All.nothing;
-      lasts = subst (λ α. LastsOf null α 0) (sym (right-none size)) (lasts-none null);
-    }
-
--- Before a nonterminal that can be empty the walk goes on,
-pub ending-goes : {ws : List ℕ} {null p i set x r : ℕ} → Ending ws null p i set → 0 < i → SymbolAt ws p (i - 1) x → 64 ≤ x
-    → member null (x - 64) ≡ true → r ≡ with set (x - 64) → Ending ws null p (i - 1) r
-ending-goes {null = null} {set = set} {x = x} {r = r} w l at high n e =
-    record {
-      inside = omega (arith, w .inside);
-      empties = subst (All (NullBy null)) (sym (right-from l (w .inside) at)) (All.also (high, n) (w .empties));
-      lasts = subst (λ α. LastsOf null α r) (sym (right-from l (w .inside) at))
-          (subst (LastsOf null (x ∷ _)) (sym e) (lasts-name high (w .empties) (w .lasts)));
-    }
-
-module _ {ws : List ℕ} {null p i set x : ℕ} (w : Ending ws null p i set) (l : 0 < i) (at : SymbolAt ws p (i - 1) x) where
-  whole : {r : ℕ} → (NullBy null x → ⊥) → LastsOf null (x ∷ drop i (rightSide ws p)) r → LastsOf null (rightSide ws p) r
-  whole stays f =
-      lasts-cut (take (i - 1) (rightSide ws p)) stays
-      (sym (take-append-drop (i - 1) (rightSide ws p)) ∙ ap (λ v. take (i - 1) (rightSide ws p) ++ v) (right-from l (w .inside) at)) f
-
-  -- and at any other symbol it ends.
-  pub ending-token : x < 64 → LastsOf null (rightSide ws p) set
-  ending-token low = whole (λ n. let high = n .0 in omega arith) (lasts-token low (w .lasts))
-
-  pub ending-stop : {r : ℕ} → 64 ≤ x → member null (x - 64) ≡ false → r ≡ with set (x - 64) → LastsOf null (rightSide ws p) r
-  ending-stop high n e =
-      whole (λ m. true≢false (sym (m .1) ∙ n))
-      (subst (LastsOf null (x ∷ drop i (rightSide ws p))) (sym e) (lasts-name high (w .empties) (w .lasts)))
-
-pub ending-ends : {ws : List ℕ} {null p i set : ℕ} → Ending ws null p i set → i ≡ 0 → LastsOf null (rightSide ws p) set
-ending-ends {ws} {null} {p} {set = set} w e = subst (λ n. LastsOf null (drop n (rightSide ws p)) set) e (w .lasts)
+pub lasting-ends : (α : List ℕ) {null i set : ℕ} {ends : Bool} → Lasting null (drop i α) set ends → i ≡ 0 → LastsOf null α set
+lasting-ends α {null} {set = set} w e = subst (λ n. LastsOf null (drop n α) set) e (w .lasts)

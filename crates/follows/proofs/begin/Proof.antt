@@ -23,8 +23,8 @@ loop-holds c =
     let start = c .before .before .before .before .before .before in
     begin-none (start .pre .1)
 
-add-rule-requires : tie.Need-add-rule-requires Inv-loop μ-loop
-add-rule-requires c κs =
+feed-rule-requires : tie.Need-feed-rule-requires Inv-loop μ-loop
+feed-rule-requires c κs =
     let start = c .before .before .before .before .before .before .before .before .before in
     let loop = c .before .before .loop in
     let rule-count = c .before .before .before .rule-count in
@@ -40,24 +40,17 @@ left-of-requires c κs =
     let rule-count = c .before .before .before .before .before .before .rule-count in
     (start .pre .0 .asked .ready, omega (arith, loop-test .taken, rule-count .ensures))
 
-last-of-requires : tie.Need-last-of-requires Inv-loop μ-loop
-last-of-requires c κs =
-    let start = c .before .before .before .before .before .before .before .before .before .before .before .before .before in
-    let loop-test = c .before .before .before .before .before .loop-test in
-    let rule-count = c .before .before .before .before .before .before .before .rule-count in
-    (start .pre .0 .asked .ready, omega (arith, loop-test .taken, rule-count .ensures))
-
 cast-add-to : tie.Need-cast-add-to Inv-loop μ-loop
 cast-add-to c = search needs
 
 add-to-requires : tie.Need-add-to-requires Inv-loop μ-loop
 add-to-requires c κs =
-    let loop = c .before .before .before .before .before .before .before .before .loop in
-    omega (arith, c .before .before .left-of .ensures .small, loop .inv .begun .size)
+    let loop = c .before .before .before .before .before .before .before .loop in
+    omega (arith, c .before .left-of .ensures .small, loop .inv .begun .size)
 
 note-requires : tie.Need-note-requires Inv-loop μ-loop
 note-requires c κs =
-    let left-of = c .before .before .before .before .before .left-of in
+    let left-of = c .before .before .before .before .left-of in
     left-of .ensures .small
 
 add-p : tie.Need-add-p Inv-loop μ-loop
@@ -68,17 +61,15 @@ loop-less c = search needs
 
 loop-again : tie.Need-loop-again Inv-loop μ-loop
 loop-again c =
-    let turn = c .before .before .before .before .before .before .before .before .before .before .before .before in
+    let turn = c .before .before .before .before .before .before .before .before .before .before .before in
     let start = turn .before .before .before .before .before .before .before in
-    let loop = turn .loop in
-    let loop-test = c .before .before .before .before .before .before .before .before .before .before .before .loop-test in
+    let loop-test = c .before .before .before .before .before .before .before .before .before .before .loop-test in
     let rule-count = turn .before .rule-count in
-    let add-rule = c .before .before .before .before .before .before .before .before .before .add-rule in
-    let left-of = c .before .before .before .before .before .before .left-of in
-    let last-of = c .before .before .before .before .before .last-of in
+    let feed-rule = c .before .before .before .before .before .before .before .before .feed-rule in
+    let left-of = c .before .before .before .before .before .left-of in
     let add-to = c .before .before .before .add-to in
-    begin-goes (start .pre .0) (loop .inv) (omega (arith, loop-test .taken, rule-count .ensures)) (add-rule .ensures) (left-of .ensures)
-    (last-of .ensures) (add-to .ensures) (c .note .ensures)
+    begin-goes (start .pre .0) (turn .loop .inv) (omega (arith, loop-test .taken, rule-count .ensures)) (feed-rule .ensures)
+    (left-of .ensures) (add-to .ensures) (c .note .ensures)
 
 same-length : tie.Need-same-length Inv-loop μ-loop
 same-length c =
@@ -96,5 +87,5 @@ returns c = begin-ends (c .before .loop .inv) (omega (arith, c .loop-test .left,
 pub begin-spec : {M : Type 1} → statement M
 begin-spec =
     tie.close
-    (tie.spec Inv-loop μ-loop rule-count-requires loop-holds add-rule-requires left-of-requires last-of-requires cast-add-to
+    (tie.spec Inv-loop μ-loop rule-count-requires loop-holds feed-rule-requires left-of-requires cast-add-to
     add-to-requires note-requires add-p loop-less loop-again same-length same-length-2 returns)
