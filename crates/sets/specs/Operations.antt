@@ -34,3 +34,7 @@ pub record Least (s i : ℕ) : Type 0 where
 -- The set r has what is in a and not in b.
 pub record Beyond (a b r : ℕ) : Type 0 where
   pub exact : (i : ℕ) → (member r i ≡ true) ↔ ((member a i ≡ true) × (member b i ≡ true → ⊥))
+
+-- The set r has the numbers below n.
+pub record Below (n r : ℕ) : Type 0 where
+  pub exact : (i : ℕ) → (member r i ≡ true) ↔ (i < n)

@@ -3,19 +3,20 @@
 --     without-less                               it is a smaller number
 --     least-of                                   the least number is that of the zeros below the lowest bit
 --     beyond-of                                  what is in a and not in b, by the complement of b
---     least-one, beyond-one                      both are one
+--     below-of                                   the numbers below n
+--     least-one, beyond-one, below-one           each is one
 use Prim.Native.Nat.{ℕ, zero, suc, _+_, _-_, _*_, _/_, _%_, _^_, _≤_, _<_}
 use mathlib.Core.Bool.{true}
 use mathlib.Core.Path.{_≡_, refl, sym, ap, _∙_, subst}
 use mathlib.Core.Logic.{_⊎_, inl, inr, ⊎-elim}
 use native.Mathlib.Omega.{arith}
-use native.Mathlib.Nat.{pow-suc, one-mul, mod-eq-of-lt}
+use native.Mathlib.Nat.{pow-suc, one-mul, mod-eq-of-lt, div-div-eq-div-mul}
 use lib.Bits.{bitAnd}
 use lib.Count.{trailingZeros, under}
-use lib.Pow.{pow-pos, pow-lt}
+use lib.Pow.{pow-add, pow-pos, pow-lt}
 use Rattle.base.specs.Choices.{below-or}
 use Rattle.sets.specs.Bits.{member}
-use Rattle.sets.specs.Operations.{without, Least, Beyond}
+use Rattle.sets.specs.Operations.{without, Below, Least, Beyond}
 use Rattle.sets.specs.Laws.{bit, bit-small, member-bit, bit-member, and-bit, bit-suc, bit-zero, zero-bit, bit-cases, half-below, same-members}
 
 -- ---- Without a number
@@ -169,6 +170,39 @@ beyond-of a b small low = record { exact = λ i. (forth i, back i) }
         (arith, and-bit a (2 ^ 64 - 1 - b) i, member-bit a i (h .0), complement-bit 64 b i low (member-below a i small (h .0))))
         (bit-cases b i _ refl))
 
+-- ---- The numbers below another
+
+low-bit : (n i : ℕ) → i < n → bit (2 ^ n - 1) i ≡ 1
+low-bit zero i h = absurd (omega arith)
+low-bit (suc n) zero h = omega (arith, bit-zero (2 ^ suc n - 1), pow-suc 2 n, pow-pos n)
+low-bit (suc n) (suc i) h =
+    let half : (2 ^ suc n - 1) / 2 ≡ 2 ^ n - 1 = omega (arith, pow-suc 2 n, pow-pos n) in
+    bit-suc (2 ^ suc n - 1) i ∙ (ap (λ (m : ℕ). bit m i) half ∙ low-bit n i (omega arith))
+
+high-bit : (n i : ℕ) → bit (2 ^ n - 1) i ≡ 1 → i < n
+high-bit zero i e = absurd (omega (arith, zero-bit i))
+high-bit (suc n) zero e = omega arith
+high-bit (suc n) (suc i) e =
+    let half : (2 ^ suc n - 1) / 2 ≡ 2 ^ n - 1 = omega (arith, pow-suc 2 n, pow-pos n) in
+    omega (arith, high-bit n i (sym (bit-suc (2 ^ suc n - 1) i ∙ ap (λ (m : ℕ). bit m i) half) ∙ e))
+
+shift-bit : (s j i : ℕ) → bit (s / 2 ^ j) i ≡ bit s (j + i)
+shift-bit s j i =
+    ap (λ (n : ℕ). n % 2) (div-div-eq-div-mul s (2 ^ j) (2 ^ i) ∙ ap (λ (n : ℕ). s / n) (sym (pow-add 2 j i)))
+
+pub below-of : (n : ℕ) → n ≤ 64 → Below n ((2 ^ 64 - 1) / 2 ^ (64 - n))
+below-of n most =
+    record {
+      exact = λ i. (
+        λ m.
+            let e = sym (shift-bit (2 ^ 64 - 1) (64 - n) i) ∙ member-bit ((2 ^ 64 - 1) / 2 ^ (64 - n)) i m in
+            omega (arith, high-bit 64 (64 - n + i) e),
+        λ h.
+            bit-member ((2 ^ 64 - 1) / 2 ^ (64 - n)) i
+            (shift-bit (2 ^ 64 - 1) (64 - n) i ∙ low-bit 64 (64 - n + i) (omega arith)),
+      );
+    }
+
 -- ---- Only one answer
 
 pub least-one : {s i j : ℕ} → Least s i → Least s j → i ≡ j
@@ -178,4 +212,8 @@ least-one {s} {i} {j} a b =
 
 pub beyond-one : {a b r q : ℕ} → Beyond a b r → Beyond a b q → r < 2 ^ 64 → q < 2 ^ 64 → r ≡ q
 beyond-one {r = r} {q} f g l m =
+    same-members 64 r q l m (λ i h. g .exact i .1 (f .exact i .0 h)) (λ i h. f .exact i .1 (g .exact i .0 h))
+
+pub below-one : {n r q : ℕ} → Below n r → Below n q → r < 2 ^ 64 → q < 2 ^ 64 → r ≡ q
+below-one {r = r} {q} f g l m =
     same-members 64 r q l m (λ i h. g .exact i .1 (f .exact i .0 h)) (λ i h. f .exact i .1 (g .exact i .0 h))

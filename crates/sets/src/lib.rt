@@ -3,10 +3,10 @@
 // Each of these compiles to an instruction or two.
 ghost use mathlib.Core.Path.{_≡_};
 ghost use mathlib.Core.Bool.{true};
-ghost use Prim.Native.Nat.{_<_};
+ghost use Prim.Native.Nat.{_≤_, _<_};
 ghost use Rattle.sets.specs.Bits.{member};
 ghost use Rattle.base.specs.Telling.{Tells};
-ghost use Rattle.sets.specs.Operations.{with, union, without, Beyond, Least, Shared};
+ghost use Rattle.sets.specs.Operations.{with, union, without, Below, Beyond, Least, Shared};
 
 // Number i is in the set.
 pub fn has(s: u64, i: u16) -> bool
@@ -60,4 +60,13 @@ pub fn beyond(a: u64, b: u64) -> u64
     ensures { λ r. ⌜ Beyond a b r ⌝ }
 {
     a & !b
+}
+
+// The numbers below n.
+pub fn below(n: usize) -> u64
+    requires { ⌜ 0 < n ⌝ }
+    requires { ⌜ n ≤ 64 ⌝ }
+    ensures { λ r. ⌜ Below n r ⌝ }
+{
+    18446744073709551615 >> (64 - n)
 }

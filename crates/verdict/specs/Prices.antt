@@ -14,6 +14,8 @@ use Rattle.grammar.specs.Derivation.{Productive}
 use Rattle.grammar.specs.Cost.{SymbolCost, Cheapest, CheapestRule}
 use Rattle.grammar.specs.Grammar.{RuleOf, Affordable, Reliable, EachNonterminal}
 use Rattle.grammar.specs.theory.Tables.{Inner}
+use Rattle.grammar.specs.declared.Refusal.{Refusal}
+use Rattle.grammar.specs.declared.Refusal.the-variants.{NoString, TooCostly}
 use Rattle.costs.specs.Costed.{Costed}
 use Rattle.verdict.specs.Parts.{each-entry}
 
@@ -25,6 +27,11 @@ Within ws limit l = (k : ℕ) → k < nonterminalCount ws → getD l (64 + k) 0 
 
 abbrev pub Limited : List ℕ → List ℕ → Type 0
 Limited ws l = Within ws 60000 l
+
+-- The refusal where a nonterminal costs more than 60,000.
+pub data Dear (ws l : List ℕ) (r : Refusal) : Type 0 where
+  string : Within ws 60001 l → r ≡ TooCostly → Dear ws l r
+  none : (Within ws 60001 l → ⊥) → r ≡ NoString → Dear ws l r
 
 pub productive-all : {ws l : List ℕ} → Costed ws l → Within ws 60001 l → EachNonterminal ws (Productive (RuleOf ws))
 productive-all c f k h = c .productive k h (f k h)

@@ -23,7 +23,7 @@ ghost use Rattle.verdict.specs.Answer.{
   Tabled,
   checkOf,
 };
-ghost use Rattle.verdict.specs.Prices.{Limits, Within};
+ghost use Rattle.verdict.specs.Prices.{Dear, Limits, Within};
 use grammar::Refusal;
 
 mod rows;
@@ -93,11 +93,8 @@ fn judge(words: &[u16], places: &mut [u16; 256], costs: &mut [u32], sets: &mut [
         return Checked::Refused(Refusal::Unreachable);
     }
     costs::costs(words, places, &mentions, costs);
-    if within(words, costs, 60001) {} else {
-        return Checked::Refused(Refusal::NoString);
-    }
     if within(words, costs, 60000) {} else {
-        return Checked::Refused(Refusal::TooCostly);
+        return Checked::Refused(unaffordable(words, costs));
     }
     let null = costs::empties(words, costs);
     if predictable(words, places, null, &mut sets[0..64]) {} else {
@@ -125,15 +122,19 @@ fn covers(words: &[u16], mask: u64) -> bool
     requires { ⌜ Shaped (now words) ⌝ }
     ensures { λ r. ⌜ Tells ((k : ℕ) → k < nonterminalCount (now (words .entry)) → member mask k ≡ true) r ⌝ }
 {
-    let count = shape::nonterminal_count(words);
-    let mut k = 0;
-    while k < count {
-        if sets::has(mask, k as u16) {} else {
-            return false;
-        }
-        k += 1;
+    sets::beyond(sets::below(shape::nonterminal_count(words)), mask) == 0
+}
+
+// Which refusal is due where a nonterminal costs more than 60,000: 7 where one derives no terminal string, else 8.
+fn unaffordable(words: &[u16], costs: &[u32]) -> Refusal
+    requires { ⌜ Shaped (now words) ⌝ }
+    requires { ⌜ Costed (now words) (now costs) ⌝ }
+    ensures { λ r. ⌜ Dear (now (words .entry)) (now (costs .entry)) r ⌝ }
+{
+    if within(words, costs, 60001) {
+        return Refusal::TooCostly;
     }
-    true
+    Refusal::NoString
 }
 
 // No nonterminal's cost is over the limit.

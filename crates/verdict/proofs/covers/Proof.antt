@@ -1,70 +1,55 @@
--- `verdict::covers` meets its contract: the nonterminals in front of k are in the set.
-use borrow.Author.Needs.{needs}
+-- `verdict::covers` meets its contract.
 use native.Mathlib.Omega.{arith}
-use Prim.Native.Nat.{ℕ, _<_, _-_}
-use mathlib.Core.Path.{_≡_, sym, _∙_}
-use mathlib.Core.Bool.{true, true≢false}
-use borrow.Author.Count.{below-more}
+use Prim.Native.Nat.{ℕ, _^_, _<_}
+use mathlib.Core.Path.{_≡_, refl, sym, _∙_, subst}
+use mathlib.Core.Bool.{Bool, true, false, true≢false}
+use mathlib.Core.Logic.{⊎-elim}
+use lib.Dec.{eqb}
+use Rattle.base.specs.Choices.{below-or}
+use Rattle.base.specs.Telling.{Tells, tells-eq}
 use Rattle.sets.specs.Bits.{member}
-use Rattle.base.specs.Telling.{told, denied}
+use Rattle.sets.specs.Operations.{Below, Beyond}
+use Rattle.sets.specs.Laws.{empty-none, some-member}
+use borrow.Author.Needs.{needs}
 use Rattle.verdict.proofs.covers.Statement.{statement}
 use Rattle.verdict.proofs.covers.Tie as tie
 
-abbrev Inv-loop : tie.InvT-loop
-Inv-loop words mask count k₀ k = (j : ℕ) → j < k → member mask j ≡ true
+nonterminal-count-requires : tie.Need-nonterminal-count-requires
+nonterminal-count-requires c κs = search needs
 
-abbrev μ-loop : tie.MeasureT-loop
-μ-loop words mask count k₀ k = count - k
+below-requires : tie.Need-below-requires
+below-requires c κs = search needs
 
-nonterminal-count-requires : tie.Need-nonterminal-count-requires Inv-loop μ-loop
-nonterminal-count-requires c κs = c .before .pre
+beyond-requires : tie.Need-beyond-requires
+beyond-requires c κs = search needs
 
-loop-holds : tie.Need-loop-holds Inv-loop μ-loop
-loop-holds c = λ j h. absurd (omega arith)
+-- Nothing of the set is beyond the mask exactly where all of it is in the mask.
+covered : {n all mask rest : ℕ} → rest < 2 ^ 64 → Below n all → Beyond all mask rest
+    → Tells ((k : ℕ) → k < n → member mask k ≡ true) (eqb rest 0)
+covered {n} {all} {mask} {rest} small below beyond = tells-eq rest 0 (λ e k h. at k h e (member mask k) refl) none
+  where
+    at : (k : ℕ) → k < n → rest ≡ 0 → (b : Bool) → member mask k ≡ b → member mask k ≡ true
+    at k h e true q = q
+    at k h e false q =
+        absurd
+        (empty-none k
+        (subst (λ (s : ℕ). member s k ≡ true) e (beyond .exact k .1 (below .exact k .1 h, λ m. true≢false (sym m ∙ q)))))
 
-cast-has : tie.Need-cast-has Inv-loop μ-loop
-cast-has c = omega (arith, c .before .before .before .before .pre .nonterminals-high)
+    none : ((k : ℕ) → k < n → member mask k ≡ true) → rest ≡ 0
+    none f =
+        ⊎-elim (λ zero. omega arith)
+        (λ some.
+        let found = some-member 64 rest small some in
+        let out = beyond .exact (found .number) .0 (found .held) in
+        absurd (out .1 (f (found .number) (below .exact (found .number) .0 (out .0)))))
+        (below-or rest 1)
 
-has-requires : tie.Need-has-requires Inv-loop μ-loop
-has-requires c κs =
-    let nonterminal-count = c .before .before .nonterminal-count in
-    let start = c .before .before .before .before in
-    let n = nonterminal-count .ensures in
-    omega (arith, start .pre .nonterminals-high)
-
-returns : tie.Need-returns Inv-loop μ-loop
+returns : tie.Need-returns
 returns c =
-    let nonterminal-count = c .before .before .before .before .nonterminal-count in
-    let loop = c .before .before .before .loop in
-    let n = nonterminal-count .ensures in
-    denied (λ f. true≢false (sym (f (loop .k) (omega arith)) ∙ (sym (c .before .has .ensures) ∙ c .if1 .left)))
-
-add-k : tie.Need-add-k Inv-loop μ-loop
-add-k c = search needs
-
-loop-less : tie.Need-loop-less Inv-loop μ-loop
-loop-less c = search needs
-
-loop-again : tie.Need-loop-again Inv-loop μ-loop
-loop-again c =
-    let loop = c .before .before .before .loop in
-    below-more (λ j. member _ j ≡ true) _ (loop .inv) (sym (c .before .has .ensures) ∙ c .if1 .taken)
-
-returns-2 : tie.Need-returns-2 Inv-loop μ-loop
-returns-2 c = let n = c .before .before .nonterminal-count .ensures in told (λ k h. c .before .loop .inv k (omega arith))
+    let small : c .beyond .result < 2 ^ 64 = search needs in covered small
+    (subst (λ n. Below n (c .before .below .result)) (c .before .before .nonterminal-count .ensures) (c .before .below .ensures))
+    (c .beyond .ensures)
 
 pub covers-spec : {M : Type 1} → statement M
 covers-spec =
-    tie.close
-    (tie.spec
-    Inv-loop
-    μ-loop
-    nonterminal-count-requires
-    loop-holds
-    cast-has
-    has-requires
-    returns
-    add-k
-    loop-less
-    loop-again
-    returns-2)
+    tie.close (tie.spec nonterminal-count-requires below-requires beyond-requires returns)

@@ -3,8 +3,8 @@ use native.Mathlib.Omega.{arith}
 use mathlib.Core.Path.{_∙_}
 use Rattle.growth.specs.Sums.{blank-made}
 use Rattle.verdict.specs.Answer.{accepting, refusing}
-use Rattle.verdict.specs.Judge.{refused-5, refused-6, refused-7, refused-8, refused-9, accepted}
-use Rattle.verdict.specs.Prices.{afford-all, afford-none, productive-all, productive-none}
+use Rattle.verdict.specs.Judge.{refused-5, refused-6, refused-9, refused-dear, productive-limited, accepted}
+use Rattle.verdict.specs.Prices.{afford-all}
 use Rattle.verdict.specs.Sets.{sets-filled}
 use borrow.Author.Needs.{needs}
 use Rattle.verdict.proofs.judge.Statement.{statement}
@@ -48,46 +48,31 @@ within-requires c κs =
     let by-shape = c .before .before .before .before .before .before .before .before .before .before .before .before .before .before .before .shape in
     (by-shape .ensures .yes (by-if1 .taken) .shaped, c .before .before .before .costs .ensures)
 
-same-length : tie.Need-same-length
-same-length c = search needs
-
-returns-3 : tie.Need-returns-3
-returns-3 c =
-    let by-costs = c .before .before .before .before .before .costs in
-    let by-if2 = c .before .before .before .before .before .before .before .before .before .before .if2 in
-    let by-reachable = c .before .before .before .before .before .before .before .before .before .before .before .before .reachable in
-    let by-if1 = c .before .before .before .before .before .before .before .before .before .before .before .before .before .before .before .before .if1 in
-    let by-shape = c .before .before .before .before .before .before .before .before .before .before .before .before .before .before .before .before .before .shape in
-    refusing (refused-7 _ (by-shape .ensures .yes (by-if1 .taken) .shaped) (by-reachable .ensures .tells .yes (by-if2 .taken))
-    (λ all. c .before .within .ensures .no (c .if3 .left) (productive-none (by-costs .ensures) all)))
-
-within-requires-2 : tie.Need-within-requires-2
-within-requires-2 c κs =
+unaffordable-requires : tie.Need-unaffordable-requires
+unaffordable-requires c κs =
     let by-costs = c .before .before .before .before .before .before .costs in
     let by-if1 = c .before .before .before .before .before .before .before .before .before .before .before .before .before .before .before .before .before .if1 in
     let by-shape = c .before .before .before .before .before .before .before .before .before .before .before .before .before .before .before .before .before .before .shape in
     (by-shape .ensures .yes (by-if1 .taken) .shaped, by-costs .ensures)
 
-same-length-2 : tie.Need-same-length-2
-same-length-2 c = search needs
+same-length : tie.Need-same-length
+same-length c = search needs
 
-returns-4 : tie.Need-returns-4
-returns-4 c =
-    let by-within = c .before .before .before .before .within in
-    let by-costs = c .before .before .before .before .before .before .before .before .costs in
-    let by-if2 = c .before .before .before .before .before .before .before .before .before .before .before .before .before .if2 in
-    let by-reachable = c .before .before .before .before .before .before .before .before .before .before .before .before .before .before .before .reachable in
-    let by-if1 = c .before .before .before .before .before .before .before .before .before .before .before .before .before .before .before .before .before .before .before .if1 in
-    let by-shape = c .before .before .before .before .before .before .before .before .before .before .before .before .before .before .before .before .before .before .before .before .shape in
-    refusing (refused-8 _ (by-shape .ensures .yes (by-if1 .taken) .shaped) (by-reachable .ensures .tells .yes (by-if2 .taken))
-    (productive-all (by-costs .ensures) (by-within .ensures .yes (c .before .before .before .if3 .taken)))
-    (λ all. c .before .within2 .ensures .no (c .if4 .left) (afford-none (by-costs .ensures) all)))
+returns-3 : tie.Need-returns-3
+returns-3 c =
+    let by-costs = c .before .before .before .before .before .before .before .costs in
+    let by-if2 = c .before .before .before .before .before .before .before .before .before .before .before .before .if2 in
+    let by-reachable = c .before .before .before .before .before .before .before .before .before .before .before .before .before .before .reachable in
+    let by-if1 = c .before .before .before .before .before .before .before .before .before .before .before .before .before .before .before .before .before .before .if1 in
+    let by-shape = c .before .before .before .before .before .before .before .before .before .before .before .before .before .before .before .before .before .before .before .shape in
+    refusing (refused-dear (by-shape .ensures .yes (by-if1 .taken) .shaped) (by-reachable .ensures .tells .yes (by-if2 .taken))
+    (by-costs .ensures) (c .before .before .before .within .ensures .no (c .before .before .if3 .left)) (c .unaffordable .ensures))
 
 empties-requires : tie.Need-empties-requires
 empties-requires c κs =
-    let by-costs = c .before .before .before .before .before .before .before .before .before .costs in
-    let by-if1 = c .before .before .before .before .before .before .before .before .before .before .before .before .before .before .before .before .before .before .before .before .if1 in
-    let by-shape = c .before .before .before .before .before .before .before .before .before .before .before .before .before .before .before .before .before .before .before .before .before .shape in
+    let by-costs = c .before .before .before .before .before .before .costs in
+    let by-if1 = c .before .before .before .before .before .before .before .before .before .before .before .before .before .before .before .before .before .if1 in
+    let by-shape = c .before .before .before .before .before .before .before .before .before .before .before .before .before .before .before .before .before .before .shape in
     (by-shape .ensures .yes (by-if1 .taken) .shaped, by-costs .ensures)
 
 sub-predictable : tie.Need-sub-predictable
@@ -97,16 +82,14 @@ part-predictable-start : tie.Need-part-predictable-start
 part-predictable-start c = search needs
 
 part-predictable-end : tie.Need-part-predictable-end
-part-predictable-end c =
-    let start = c .before .before .before .before .before .before .before .before .before .before .before .before .before .before .before .before .before .before .before .before .before .before .before .before .before .before .before .before .before in
-    omega (arith, start .pre .1)
+part-predictable-end c = search needs
 
 predictable-requires : tie.Need-predictable-requires
 predictable-requires c κs =
-    let by-if2 = c .before .before .before .before .before .before .before .before .before .before .before .before .before .before .before .before .before .before .if2 in
-    let by-reachable = c .before .before .before .before .before .before .before .before .before .before .before .before .before .before .before .before .before .before .before .before .reachable in
-    let by-if1 = c .before .before .before .before .before .before .before .before .before .before .before .before .before .before .before .before .before .before .before .before .before .before .before .before .if1 in
-    let by-shape = c .before .before .before .before .before .before .before .before .before .before .before .before .before .before .before .before .before .before .before .before .before .before .before .before .before .shape in (
+    let by-if2 = c .before .before .before .before .before .before .before .before .before .before .before .before .before .before .before .if2 in
+    let by-reachable = c .before .before .before .before .before .before .before .before .before .before .before .before .before .before .before .before .before .reachable in
+    let by-if1 = c .before .before .before .before .before .before .before .before .before .before .before .before .before .before .before .before .before .before .before .before .before .if1 in
+    let by-shape = c .before .before .before .before .before .before .before .before .before .before .before .before .before .before .before .before .before .before .before .before .before .before .shape in (
       record {
         ready = by-shape .ensures .yes
             (by-if1 .taken);
@@ -116,60 +99,55 @@ predictable-requires c κs =
       by-reachable .ensures .tells .yes (by-if2 .taken),
     )
 
+same-length-2 : tie.Need-same-length-2
+same-length-2 c = search needs
+
 same-length-3 : tie.Need-same-length-3
 same-length-3 c = search needs
+
+returns-4 : tie.Need-returns-4
+returns-4 c =
+    let by-if3 = c .before .before .before .before .before .before .before .before .before .if3 in
+    let by-within = c .before .before .before .before .before .before .before .before .before .before .within in
+    let by-costs = c .before .before .before .before .before .before .before .before .before .before .before .before .before .before .costs in
+    let by-if2 = c .before .before .before .before .before .before .before .before .before .before .before .before .before .before .before .before .before .before .before .if2 in
+    let by-reachable = c .before .before .before .before .before .before .before .before .before .before .before .before .before .before .before .before .before .before .before .before .before .reachable in
+    let by-if1 = c .before .before .before .before .before .before .before .before .before .before .before .before .before .before .before .before .before .before .before .before .before .before .before .before .before .if1 in
+    let by-shape = c .before .before .before .before .before .before .before .before .before .before .before .before .before .before .before .before .before .before .before .before .before .before .before .before .before .before .shape in
+    refusing (refused-9 _ (by-shape .ensures .yes (by-if1 .taken) .shaped) (by-reachable .ensures .tells .yes (by-if2 .taken))
+    (productive-limited (by-costs .ensures) (by-within .ensures .yes (by-if3 .taken)))
+    (afford-all (by-costs .ensures) (by-within .ensures .yes (by-if3 .taken)))
+    (c .before .before .before .predictable .ensures .tells .no (c .if4 .left)))
+
+slice-write-sets : tie.Need-slice-write-sets
+slice-write-sets c =
+    let start = c .before .before .before .before .before .before .before .before .before .before .before .before .before .before .before .before .before .before .before .before .before .before .before .before .before .before .before .before .before .before .before in
+    omega (arith, c .before .before .sets .given .1, start .pre .1)
 
 same-length-4 : tie.Need-same-length-4
 same-length-4 c = search needs
 
-returns-5 : tie.Need-returns-5
-returns-5 c =
-    let by-if4 = c .before .before .before .before .before .before .before .before .before .if4 in
-    let by-within2 = c .before .before .before .before .before .before .before .before .before .before .within2 in
-    let by-if3 = c .before .before .before .before .before .before .before .before .before .before .before .before .if3 in
-    let by-within = c .before .before .before .before .before .before .before .before .before .before .before .before .before .within in
-    let by-costs = c .before .before .before .before .before .before .before .before .before .before .before .before .before .before .before .before .before .costs in
-    let by-if2 = c .before .before .before .before .before .before .before .before .before .before .before .before .before .before .before .before .before .before .before .before .before .before .if2 in
-    let by-reachable = c .before .before .before .before .before .before .before .before .before .before .before .before .before .before .before .before .before .before .before .before .before .before .before .before .reachable in
-    let by-if1 = c .before .before .before .before .before .before .before .before .before .before .before .before .before .before .before .before .before .before .before .before .before .before .before .before .before .before .before .before .if1 in
-    let by-shape = c .before .before .before .before .before .before .before .before .before .before .before .before .before .before .before .before .before .before .before .before .before .before .before .before .before .before .before .before .before .shape in
-    refusing (refused-9 _ (by-shape .ensures .yes (by-if1 .taken) .shaped) (by-reachable .ensures .tells .yes (by-if2 .taken))
-    (productive-all (by-costs .ensures) (by-within .ensures .yes (by-if3 .taken)))
-    (afford-all (by-costs .ensures) (by-within2 .ensures .yes (by-if4 .taken)))
-    (c .before .before .before .predictable .ensures .tells .no (c .if5 .left)))
-
-slice-write-sets : tie.Need-slice-write-sets
-slice-write-sets c =
-    let start = c .before .before .before .before .before .before .before .before .before .before .before .before .before .before .before .before .before .before .before .before .before .before .before .before .before .before .before .before .before .before .before .before .before .before in
-    omega (arith, c .before .before .sets .given .1, start .pre .1)
-
 same-length-5 : tie.Need-same-length-5
 same-length-5 c = search needs
 
-same-length-6 : tie.Need-same-length-6
-same-length-6 c = search needs
-
-returns-6 : tie.Need-returns-6
-returns-6 c =
+returns-5 : tie.Need-returns-5
+returns-5 c =
     let by-predictable-arg3 = c .before .before .before .before .predictable-arg3 in
     let by-empties = c .before .before .before .before .before .before .before .empties in
-    let by-if4 = c .before .before .before .before .before .before .before .before .before .if4 in
-    let by-within2 = c .before .before .before .before .before .before .before .before .before .before .within2 in
-    let by-if3 = c .before .before .before .before .before .before .before .before .before .before .before .before .if3 in
-    let by-within = c .before .before .before .before .before .before .before .before .before .before .before .before .before .within in
-    let by-costs = c .before .before .before .before .before .before .before .before .before .before .before .before .before .before .before .before .before .costs in
-    let by-if2 = c .before .before .before .before .before .before .before .before .before .before .before .before .before .before .before .before .before .before .before .before .before .before .if2 in
-    let by-reachable = c .before .before .before .before .before .before .before .before .before .before .before .before .before .before .before .before .before .before .before .before .before .before .before .before .reachable in
-    let by-if1 = c .before .before .before .before .before .before .before .before .before .before .before .before .before .before .before .before .before .before .before .before .before .before .before .before .before .before .before .before .if1 in
-    let by-shape = c .before .before .before .before .before .before .before .before .before .before .before .before .before .before .before .before .before .before .before .before .before .before .before .before .before .before .before .before .before .shape in
-    let start = c .before .before .before .before .before .before .before .before .before .before .before .before .before .before .before .before .before .before .before .before .before .before .before .before .before .before .before .before .before .before .before .before .before .before in
+    let by-if3 = c .before .before .before .before .before .before .before .before .before .if3 in
+    let by-within = c .before .before .before .before .before .before .before .before .before .before .within in
+    let by-costs = c .before .before .before .before .before .before .before .before .before .before .before .before .before .before .costs in
+    let by-if2 = c .before .before .before .before .before .before .before .before .before .before .before .before .before .before .before .before .before .before .before .if2 in
+    let by-reachable = c .before .before .before .before .before .before .before .before .before .before .before .before .before .before .before .before .before .before .before .before .before .reachable in
+    let by-if1 = c .before .before .before .before .before .before .before .before .before .before .before .before .before .before .before .before .before .before .before .before .before .before .before .before .before .if1 in
+    let by-shape = c .before .before .before .before .before .before .before .before .before .before .before .before .before .before .before .before .before .before .before .before .before .before .before .before .before .before .shape in
+    let start = c .before .before .before .before .before .before .before .before .before .before .before .before .before .before .before .before .before .before .before .before .before .before .before .before .before .before .before .before .before .before .before in
     let ready = by-shape .ensures .yes (by-if1 .taken) in
     let costed = by-costs .ensures in
-    let limited = by-within2 .ensures .yes (by-if4 .taken) in
+    let limited = by-within .ensures .yes (by-if3 .taken) in
     let size = c .before .before .before .predictable .kept .1 .1 .1 .0 ∙ by-predictable-arg3 .given .2 in
-    accepting (accepted _ (ready .shaped) (by-reachable .ensures .tells .yes (by-if2 .taken))
-    (productive-all costed (by-within .ensures .yes (by-if3 .taken))) (afford-all costed limited)
-    (c .before .before .before .predictable .ensures .tells .yes (c .if5 .taken)))
+    accepting (accepted _ (ready .shaped) (by-reachable .ensures .tells .yes (by-if2 .taken)) (productive-limited costed limited)
+    (afford-all costed limited) (c .before .before .before .predictable .ensures .tells .yes (c .if4 .taken)))
     (record {
       ready = ready;
       costed = costed;
@@ -190,20 +168,18 @@ judge-spec =
     slice-aggregate-costs
     costs-requires
     within-requires
+    unaffordable-requires
     same-length
     returns-3
-    within-requires-2
-    same-length-2
-    returns-4
     empties-requires
     sub-predictable
     part-predictable-start
     part-predictable-end
     predictable-requires
+    same-length-2
     same-length-3
-    same-length-4
-    returns-5
+    returns-4
     slice-write-sets
+    same-length-4
     same-length-5
-    same-length-6
-    returns-6)
+    returns-5)

@@ -13,7 +13,8 @@ slice-aggregate-gather c = search needs
 
 gather-requires : tie.Need-gather-requires
 gather-requires c κs =
-    let start = c .before .before .before .before .before in
+    let by-before = c .before .before .before .before .before in
+    let start = by-before in
     (start .pre .0, (start .pre .1, blank-made 64))
 
 slice-aggregate-reach : tie.Need-slice-aggregate-reach
@@ -31,6 +32,7 @@ same-length c = search needs
 returns : tie.Need-returns
 returns c =
     let by-gather = c .before .before .before .before .before .before .gather in
+    let by-gather = by-gather in
     let exact = reach-exact (by-gather .ensures .1) (c .before .reach .ensures) in
     record {
       gathered = by-gather .ensures .0;
