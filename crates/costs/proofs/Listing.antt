@@ -9,6 +9,7 @@ use mathlib.Core.Bool.{true}
 use mathlib.Core.List.{List, [], _∷_, List·Memᴰ, List·Memᴰ·head, List·Memᴰ·tail, List·Memᴰ·not-nil}
 use mathlib.Core.Logic.{_⊎_, inl, inr, ⊎-elim}
 use native.Mathlib.Omega.{arith}
+use lib.ListN.{length}
 use Rattle.base.specs.Choices.{below-or, same-or}
 use Rattle.grammar.specs.Words.{terminalCount, nonterminalCount, ruleCount, leftSide, rightSide, RuleSymbol, Shaped}
 use Rattle.grammar.specs.theory.Closed.{total}
@@ -28,8 +29,9 @@ pub record Listing (ws l : List ℕ) (list : ℕ) : Type 0 where
   pub waits : (q : ℕ) → q < ruleCount ws → Waits ws list q ⊎ SettledAt ws q l
 
 -- The words that the rules take.
-pub spans : {ws : List ℕ} {count : ℕ} → Shaped ws → count ≡ ruleCount ws → Spans ws ((count + 63) / 64)
-spans s e = record { few = omega (arith, s .rules-high); all = omega arith }
+pub spans : {ws mentions : List ℕ} {count : ℕ} → MentionsOf ws mentions → count ≡ ruleCount ws → Spans ws mentions ((count + 63) / 64)
+spans {ws} {mentions} m e =
+    record { few = subst (λ n. 65 * ((n + 63) / 64) ≤ length mentions) (sym e) (m .wide); all = omega arith }
 
 -- ---- The beginning
 
@@ -80,15 +82,15 @@ module _ {ws l : List ℕ} (s : Shaped ws) (fresh : Fresh ws l) where
         waits = λ q h.
             v .settles q h
             (⊎-elim (λ some. inr (unvisited q (some .0) h (some .1)))
-            (λ none. inl (m .plain q (omega (arith, s .rules-high)) .1 (h, none)))
+            (λ none. inl (m .plain q .1 (h, none)))
             (some-or-none (rightSide ws q)));
       }
 
 -- ---- The list
 
-pub list-goes : {ws mentions old new : List ℕ} {list k fallen : ℕ} → Shaped ws → MentionsOf ws mentions → Listing ws old list → Least list k
+pub list-goes : {ws mentions old new : List ℕ} {list k fallen : ℕ} → MentionsOf ws mentions → Listing ws old list → Least list k
     → Revised ws (InRow mentions k) old new fallen → Listing ws new (union (without list k) fallen)
-list-goes {ws} {mentions} {old} {new} {list} {k} {fallen} s m f at v =
+list-goes {ws} {mentions} {old} {new} {list} {k} {fallen} m f at v =
     record { held = v .held; waits = λ q h. ⊎-elim (waiting q h) (λ settled. visited q h (inr settled)) (f .waits q h) }
   where
     visited : (q : ℕ) → q < ruleCount ws → InRow mentions k q ⊎ SettledAt ws q old
@@ -101,7 +103,7 @@ list-goes {ws} {mentions} {old} {new} {list} {k} {fallen} s m f at v =
         (λ e.
         visited q h
         (inl
-        (m .named k q (at .below) (omega (arith, s .rules-high)) .1 (h, subst (λ n. Mentions ws q n) (sym e) (w .mentions)))))
+        (m .named k q (at .below) .1 (h, subst (λ n. Mentions ws q n) (sym e) (w .mentions)))))
         (λ n.
         inl
         (record {

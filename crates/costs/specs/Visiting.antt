@@ -129,9 +129,9 @@ word-ends f e =
 
 -- ---- The words of a row
 
--- So many words of a row have all rules.
-pub record Spans (ws : List ℕ) (size : ℕ) : Type 0 where
-  pub few : size ≤ 4
+-- So many words of a row have all rules, and the table has them.
+pub record Spans (ws mentions : List ℕ) (size : ℕ) : Type 0 where
+  pub few : 65 * size ≤ length mentions
   pub all : ruleCount ws ≤ 64 * size
 
 -- The rules of the first w words of the row were visited.
@@ -142,7 +142,7 @@ pub row-begins : {ws : List ℕ} (mentions : List ℕ) (row : ℕ) {old : List �
 row-begins mentions row h = revised-none h (λ q d. omega (arith, d .0))
 
 pub row-goes : {ws : List ℕ} (mentions : List ℕ) (row : ℕ) {w rules a b : ℕ} {old mid new : List ℕ} → Rowing ws mentions row w old mid a
-    → rules ≡ getD mentions (4 * row + w) 0 → Revised ws (InWord rules w) mid new b → Rowing ws mentions row (w + 1) old new (union a b)
+    → rules ≡ getD mentions (65 * w + row) 0 → Revised ws (InWord rules w) mid new b → Rowing ws mentions row (w + 1) old new (union a b)
 row-goes mentions row {w} f is v =
     revised-then f v
     (λ q h d.
@@ -152,23 +152,22 @@ row-goes mentions row {w} f is v =
     let at : q / 64 ≡ w = omega (arith, d .0) in
     inr (
       at,
-      subst (λ s. member s (q % 64) ≡ true) (sym is) (subst (λ n. member (getD mentions (4 * row + n) 0) (q % 64) ≡ true) at (d .1)),
+      subst (λ s. member s (q % 64) ≡ true) (sym is) (subst (λ n. member (getD mentions (65 * n + row) 0) (q % 64) ≡ true) at (d .1)),
     ))
     (below-or (q / 64) w))
 
-pub row-ends : {ws : List ℕ} (mentions : List ℕ) (row : ℕ) {w size a : ℕ} {old new : List ℕ} → Spans ws size → Rowing ws mentions row w old new a
+pub row-ends : {ws : List ℕ} (mentions : List ℕ) (row : ℕ) {w size a : ℕ} {old new : List ℕ} → Spans ws mentions size → Rowing ws mentions row w old new a
     → size ≤ w → Revised ws (InRow mentions row) old new a
 row-ends mentions row s f all = revised-for f (λ q h d. (omega (arith, s .all), d))
 
 -- What stands in a row are numbers of rules.
-pub row-rules : {ws mentions : List ℕ} {row w : ℕ} → MentionsOf ws mentions → row < 65 → w < 4
-    → RulesOf ws (getD mentions (4 * row + w) 0) w
-row-rules {ws} {mentions} {row} {w} m r h i low here =
+pub row-rules : {ws mentions : List ℕ} {row : ℕ} (w : ℕ) → MentionsOf ws mentions → row < 65 → RulesOf ws (getD mentions (65 * w + row) 0) w
+row-rules {ws} {mentions} {row} w m r i low here =
     ⊎-elim
-    (λ named. m .named row (64 * w + i) named (omega arith) .0 there .0)
+    (λ named. m .named row (64 * w + i) named .0 there .0)
     (λ plain.
     let last : row ≡ 64 = omega arith in
-    m .plain (64 * w + i) (omega arith) .0 (subst (λ n. InRow mentions n (64 * w + i)) last there) .0)
+    m .plain (64 * w + i) .0 (subst (λ n. InRow mentions n (64 * w + i)) last there) .0)
     (below-or row 64)
   where
     word : (64 * w + i) / 64 ≡ w
@@ -179,8 +178,8 @@ row-rules {ws} {mentions} {row} {w} m r h i low here =
 
     there : InRow mentions row (64 * w + i)
     there =
-        subst (λ n. member (getD mentions (4 * row + n) 0) ((64 * w + i) % 64) ≡ true) (sym word)
-        (subst (λ n. member (getD mentions (4 * row + w) 0) n ≡ true) (sym bit) here)
+        subst (λ n. member (getD mentions (65 * n + row) 0) ((64 * w + i) % 64) ≡ true) (sym word)
+        (subst (λ n. member (getD mentions (65 * w + row) 0) n ≡ true) (sym bit) here)
 
 -- ---- One rule
 

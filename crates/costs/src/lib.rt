@@ -124,14 +124,14 @@ fn visit_row(
     requires { ⌜ Ready (now words) (now places) ⌝ }
     requires { ⌜ MentionsOf (now words) (now mentions) ⌝ }
     requires { ⌜ row < 65 ⌝ }
-    requires { ⌜ Spans (now words) size ⌝ }
+    requires { ⌜ Spans (now words) (now mentions) size ⌝ }
     requires { ⌜ Held (now words) (now table) ⌝ }
     ensures { λ r. ⌜ Revised (now (words .entry)) (InRow (now (mentions .entry)) row) (now (table .entry)) (now (table .exit)) r ⌝ }
 {
     let mut fallen = 0;
     let mut w = 0;
     while w < size {
-        let more = visit_word(words, places, mentions[mentions::ROW * row + w], w, table);
+        let more = visit_word(words, places, mentions[mentions::ROWS * w + row], w, table);
         fallen = sets::union(fallen, more);
         w += 1;
     }

@@ -20,19 +20,19 @@ use Rattle.sets.specs.Laws.{empty-none, some-member, same-members}
 use Rattle.sets.specs.Taking.{member-below}
 use Rattle.growth.specs.Sums.{Blank}
 use Rattle.growth.specs.Added.{Added}
-use Rattle.mentions.specs.Mentions.{Mentions, InRow, Gathered, Uses, Used}
+use Rattle.mentions.specs.Mentions.{Clear, Mentions, InRow, Gathered, Uses, Used, Wide}
 use Rattle.mentions.specs.Putting.{Mentioned, Plain}
 
-pub gather-begins : {ws table : List ℕ} → Blank 260 table → Gathered ws 0 table
-gather-begins {table = table} b =
+pub gather-begins : {ws table : List ℕ} → Clear table → Wide ws table → Gathered ws 0 table
+gather-begins {table = table} zeros wide =
     record {
-      size = b .size;
-      named = λ k q h i. (λ m. absurd (none k q m), λ g. absurd (omega (arith, g .0)));
-      plain = λ q i. (λ m. absurd (none 64 q m), λ g. absurd (omega (arith, g .0)));
+      wide = wide;
+      named = λ k q h. (λ m. absurd (none k q m), λ g. absurd (omega (arith, g .0)));
+      plain = λ q. (λ m. absurd (none 64 q m), λ g. absurd (omega (arith, g .0)));
     }
   where
     none : (r q : ℕ) → InRow table r q → ⊥
-    none r q m = empty-none (q % 64) (subst (λ s. member s (q % 64) ≡ true) (b .zeros (4 * r + q / 64)) m)
+    none r q m = empty-none (q % 64) (subst (λ s. member s (q % 64) ≡ true) (zeros (65 * (q / 64) + r)) m)
 
 -- A set without members is 0.
 no-members : (s : ℕ) → s < 2 ^ 64 → ((k : ℕ) → member s k ≡ true → ⊥) → s ≡ 0
@@ -49,43 +49,45 @@ pub gather-goes : {ws : List ℕ} {p named : ℕ} {old mid new : List ℕ} → S
     → Mentioned ws p 0 old mid named → Plain p named mid new → Gathered ws (p + 1) new
 gather-goes {ws} {p} {named} {old} {mid} {new} shaped g counted fits m l =
     record {
-      size = l .size;
-      named = λ k q h i. (forth k q h i, λ u. back k q h i (u .1) (below-or-at q p (u .0)));
-      plain = λ q i. (forthPlain q i, λ u. backPlain q i (u .1) (below-or-at q p (u .0)));
+      wide = omega (arith, l .size, m .size, g .wide);
+      named = λ k q h. (forth k q h, λ u. back k q h (u .1) (below-or-at q p (u .0)));
+      plain = λ q. (forthPlain q, λ u. backPlain q (u .1) (below-or-at q p (u .0)));
     }
   where
-    forth : (k q : ℕ) → k < 64 → q < 256 → InRow new k q → (q < p + 1) × Mentions ws q k
-    forth k q h i r =
+    forth : (k q : ℕ) → k < 64 → InRow new k q → (q < p + 1) × Mentions ws q k
+    forth k q h r =
         ⊎-elim
         (λ a.
-        ⊎-elim (λ b. let u = g .named k q h i .0 b in (omega (arith, u .0), u .1))
+        ⊎-elim (λ b. let u = g .named k q h .0 b in (omega (arith, u .0), u .1))
         (λ b. let e = b .1 in (omega arith, subst (λ n. Mentions ws n k) (sym e) (b .0)))
-        (m .source k q i a))
+        (m .source k q (omega arith) a))
         (λ a. absurd (omega (arith, a .0)))
-        (l .source k q i r)
+        (l .source k q (omega arith) r)
 
-    back : (k q : ℕ) → k < 64 → q < 256 → Mentions ws q k → (q < p) ⊎ (q ≡ p) → InRow new k q
-    back k q h i u (inl before) = l .keeps k q (m .keeps k q (g .named k q h i .1 (before, u)))
-    back k q h i u (inr e) =
+    back : (k q : ℕ) → k < 64 → Mentions ws q k → (q < p) ⊎ (q ≡ p) → InRow new k q
+    back k q h u (inl before) = l .keeps k q (m .keeps k q (g .named k q h .1 (before, u)))
+    back k q h u (inr e) =
         subst (λ n. InRow new k n) (sym e) (l .keeps k p (m .puts k (subst (λ n. Mentions ws n k) e u) .0))
 
-    forthPlain : (q : ℕ) → q < 256 → InRow new 64 q → (q < p + 1) × ((k : ℕ) → Mentions ws q k → ⊥)
-    forthPlain q i r =
+    unnamed : Mentions ws p 64 → ⊥
+    unnamed u = no-symbol (all-at (right-symbols ws shaped p counted) u) (shaped .nonterminals-high) (shaped .terminals-high)
+
+    forthPlain : (q : ℕ) → InRow new 64 q → (q < p + 1) × ((k : ℕ) → Mentions ws q k → ⊥)
+    forthPlain q r =
         ⊎-elim
         (λ a.
-        ⊎-elim (λ b. let u = g .plain q i .0 b in (omega (arith, u .0), u .1)) (λ b. absurd (no-symbol (all-at (right-symbols ws shaped p counted) (b .0)) (shaped .nonterminals-high) (shaped .terminals-high)))
-        (m .source 64 q i a))
+        ⊎-elim (λ b. let u = g .plain q .0 b in (omega (arith, u .0), u .1)) (λ b. absurd (unnamed (b .0)))
+        (m .source 64 q (omega arith) a))
         (λ a.
         let e = a .1 in (
           omega arith,
-          λ k u.
-              empty-none k (subst (λ s. member s k ≡ true) (a .2) (m .puts k (subst (λ n. Mentions ws n k) e u) .1)),
+          λ k u. empty-none k (subst (λ s. member s k ≡ true) (a .2) (m .puts k (subst (λ n. Mentions ws n k) e u) .1)),
         ))
-        (l .source 64 q i r)
+        (l .source 64 q (omega arith) r)
 
-    backPlain : (q : ℕ) → q < 256 → ((k : ℕ) → Mentions ws q k → ⊥) → (q < p) ⊎ (q ≡ p) → InRow new 64 q
-    backPlain q i u (inl before) = l .keeps 64 q (m .keeps 64 q (g .plain q i .1 (before, u)))
-    backPlain q i u (inr e) =
+    backPlain : (q : ℕ) → ((k : ℕ) → Mentions ws q k → ⊥) → (q < p) ⊎ (q ≡ p) → InRow new 64 q
+    backPlain q u (inl before) = l .keeps 64 q (m .keeps 64 q (g .plain q .1 (before, u)))
+    backPlain q u (inr e) =
         subst (λ n. InRow new 64 n) (sym e)
         (l .here (no-members named fits (λ k h. u k (subst (λ n. Mentions ws n k) (sym e) (m .origin k h)))))
 
@@ -138,33 +140,32 @@ use-ends {ws} {uses} u e = subst (λ m. Used ws m uses) e u
 
 module _ {ws one two : List ℕ} {p : ℕ} (f : Gathered ws p one) (g : Gathered ws p two) where
   -- What stands in a row of one table stands there in the other.
-  also-in : (r q : ℕ) → r < 65 → q < 256 → InRow one r q → InRow two r q
-  also-in r q h i m =
-      ⊎-elim (λ named. g .named r q named i .1 (f .named r q named i .0 m))
+  also-in : (r q : ℕ) → r < 65 → InRow one r q → InRow two r q
+  also-in r q h m =
+      ⊎-elim (λ named. g .named r q named .1 (f .named r q named .0 m))
       (λ plain.
       let last : r ≡ 64 = omega arith in
-      subst (λ n. InRow two n q) (sym last) (g .plain q i .1 (f .plain q i .0 (subst (λ n. InRow one n q) last m))))
+      subst (λ n. InRow two n q) (sym last) (g .plain q .1 (f .plain q .0 (subst (λ n. InRow one n q) last m))))
       (below-or r 64)
 
-  -- Bit b of word i is that of rule 64 * (i % 4) + b in row i / 4.
-  also-member : (i b : ℕ) → i < 260 → b < 64 → member (getD one i 0) b ≡ true → member (getD two i 0) b ≡ true
-  also-member i b h low m =
-      let q = 64 * (i % 4) + b in
-      let word : 4 * (i / 4) + q / 64 ≡ i = omega arith in
+  -- Bit b of word i is that of rule 64 * (i / 65) + b in row i % 65.
+  also-member : (i b : ℕ) → b < 64 → member (getD one i 0) b ≡ true → member (getD two i 0) b ≡ true
+  also-member i b low m =
+      let q = 64 * (i / 65) + b in
+      let word : 65 * (q / 64) + i % 65 ≡ i = omega arith in
       let bit : q % 64 ≡ b = omega arith in
-      let there = also-in (i / 4) q (omega arith) (omega arith)
+      let there = also-in (i % 65) q (omega arith)
       (subst (λ n. member (getD one n 0) (q % 64) ≡ true) (sym word) (subst (λ n. member (getD one i 0) n ≡ true) (sym bit) m)) in
       subst (λ n. member (getD two i 0) n ≡ true) bit (subst (λ n. member (getD two n 0) (q % 64) ≡ true) word there)
 
-pub mentions-one : {ws one two : List ℕ} {p : ℕ} → Gathered ws p one → Gathered ws p two → ((i : ℕ) → getD one i 0 < 2 ^ 64)
-    → ((i : ℕ) → getD two i 0 < 2 ^ 64) → one ≡ two
-mentions-one {one = one} {two} f g l m =
-    ext-getD 0 one two (f .size ∙ sym (g .size))
+pub mentions-one : {ws one two : List ℕ} {p : ℕ} → Gathered ws p one → Gathered ws p two → length one ≡ length two
+    → ((i : ℕ) → getD one i 0 < 2 ^ 64) → ((i : ℕ) → getD two i 0 < 2 ^ 64) → one ≡ two
+mentions-one {one = one} {two} f g same l m =
+    ext-getD 0 one two same
     (λ i h.
-    let below : i < 260 = omega (arith, f .size) in
     same-members 64 (getD one i 0) (getD two i 0) (l i) (m i)
-    (λ b x. also-member f g i b below (member-below (getD one i 0) b (l i) x) x)
-    (λ b x. also-member g f i b below (member-below (getD two i 0) b (m i) x) x))
+    (λ b x. also-member f g i b (member-below (getD one i 0) b (l i) x) x)
+    (λ b x. also-member g f i b (member-below (getD two i 0) b (m i) x) x))
 
 pub uses-one : {ws one two : List ℕ} {p : ℕ} → Used ws p one → Used ws p two → ((i : ℕ) → getD one i 0 < 2 ^ 64)
     → ((i : ℕ) → getD two i 0 < 2 ^ 64) → one ≡ two

@@ -1,5 +1,5 @@
 -- Which rules mention a nonterminal: "revisit only the rules that mention them" (document 02, request (v)).
-use Prim.Native.Nat.{ℕ, _+_, _*_, _/_, _%_, _<_}
+use Prim.Native.Nat.{ℕ, _+_, _*_, _/_, _%_, _≤_, _<_}
 use mathlib.Core.Path.{_≡_}
 use mathlib.Core.Bool.{true}
 use mathlib.Core.List.{List, List·Memᴰ}
@@ -12,15 +12,22 @@ use Rattle.sets.specs.Bits.{member}
 abbrev pub Mentions : List ℕ → ℕ → ℕ → Type 0
 Mentions ws p k = List·Memᴰ (64 + k) (rightSide ws p)
 
--- Rule p is in row r: its bit is, in the row's four words.
+-- Rule p is in row r: bit p % 64 of the row's word p / 64 is there.
 abbrev pub InRow : List ℕ → ℕ → ℕ → Type 0
-InRow table r p = member (getD table (4 * r + p / 64) 0) (p % 64) ≡ true
+InRow table r p = member (getD table (65 * (p / 64) + r) 0) (p % 64) ≡ true
+
+-- The table has room for all rules, and nothing stands in it.
+abbrev pub Wide : List ℕ → List ℕ → Type 0
+Wide ws table = 65 * ((ruleCount ws + 63) / 64) ≤ length table
+
+abbrev pub Clear : List ℕ → Type 0
+Clear table = (i : ℕ) → getD table i 0 ≡ 0
 
 -- The rules before p are in the rows of the nonterminals that they mention, or in row 64 where they mention none.
 pub record Gathered (ws : List ℕ) (p : ℕ) (table : List ℕ) : Type 0 where
-  pub size : length table ≡ 260
-  pub named : (k q : ℕ) → k < 64 → q < 256 → InRow table k q ↔ ((q < p) × Mentions ws q k)
-  pub plain : (q : ℕ) → q < 256 → InRow table 64 q ↔ ((q < p) × ((k : ℕ) → Mentions ws q k → ⊥))
+  pub wide : Wide ws table
+  pub named : (k q : ℕ) → k < 64 → InRow table k q ↔ ((q < p) × Mentions ws q k)
+  pub plain : (q : ℕ) → InRow table 64 q ↔ ((q < p) × ((k : ℕ) → Mentions ws q k → ⊥))
 
 -- All of them.
 abbrev pub MentionsOf : List ℕ → List ℕ → Type 0

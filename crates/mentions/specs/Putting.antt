@@ -14,23 +14,23 @@ use Rattle.sets.specs.Laws.{empty-none, with-same, with-keeps, with-cases}
 use Rattle.growth.specs.Added.{Added}
 use Rattle.mentions.specs.Mentions.{InRow}
 
--- A table of rows has 260 words.
-abbrev pub Sized : List ℕ → Type 0
-Sized table = length table ≡ 260
+-- The table has the words of rule p in all rows.
+abbrev pub HasWord : ℕ → List ℕ → Type 0
+HasWord p table = 65 * (p / 64) + 64 < length table
 
 -- Rule p was put into row r, and nothing else.
 pub record Put (r p : ℕ) (old new : List ℕ) : Type 0 where
-  pub size : Sized new
+  pub size : length new ≡ length old
   pub keeps : (s q : ℕ) → InRow old s q → InRow new s q
   pub here : InRow new r p
-  pub source : (s q : ℕ) → q < 256 → InRow new s q → InRow old s q ⊎ ((s ≡ r) × (q ≡ p))
+  pub source : (s q : ℕ) → s < 65 → InRow new s q → InRow old s q ⊎ ((s ≡ r) × (q ≡ p))
 
-pub put-added : {r p mask : ℕ} {old new : List ℕ} {b : Bool} → Sized old → p < 256 → mask ≡ with 0 (p % 64)
-    → Added old (4 * r + p / 64) mask new b → Put r p old new
-put-added {r} {p} {mask} size small is a =
+pub put-added : {r p mask : ℕ} {old new : List ℕ} {b : Bool} → r < 65 → mask ≡ with 0 (p % 64)
+    → Added old (65 * (p / 64) + r) mask new b → Put r p old new
+put-added {r} {p} {mask} small is a =
     record {
-      size = a .same ∙ size;
-      keeps = λ s q m. a .keeps (4 * s + q / 64) (q % 64) m;
+      size = a .same;
+      keeps = λ s q m. a .keeps (65 * (q / 64) + s) (q % 64) m;
       here = a .holds (p % 64) (subst (λ m. member m (p % 64) ≡ true) (sym is) (with-same 0 (p % 64)));
       source = λ s q below m.
           ⊎-elim inl
@@ -40,22 +40,22 @@ put-added {r} {p} {mask} size small is a =
           ⊎-elim (λ e. e) (λ n. absurd (empty-none (q % 64) n))
           (with-cases 0 (p % 64) (q % 64) (subst (λ n. member n (q % 64) ≡ true) is (h .1))) in
           inr (omega arith, omega arith))
-          (a .source (4 * s + q / 64) (q % 64) m);
+          (a .source (65 * (q / 64) + s) (q % 64) m);
     }
 
 -- Rule p was put into the row of symbol x where that is a nonterminal, which was added to those that it mentions.
 pub record Named (x p named : ℕ) (old new : List ℕ) (more : ℕ) : Type 0 where
-  pub size : Sized new
+  pub size : length new ≡ length old
   pub keeps : (s q : ℕ) → InRow old s q → InRow new s q
   pub here : (k : ℕ) → x ≡ 64 + k → InRow new k p × (member more k ≡ true)
   pub holds : (k : ℕ) → member named k ≡ true → member more k ≡ true
-  pub source : (s q : ℕ) → q < 256 → InRow new s q → InRow old s q ⊎ ((x ≡ 64 + s) × (q ≡ p))
+  pub source : (s q : ℕ) → s < 65 → InRow new s q → InRow old s q ⊎ ((x ≡ 64 + s) × (q ≡ p))
   pub origin : (k : ℕ) → member more k ≡ true → (member named k ≡ true) ⊎ (x ≡ 64 + k)
 
-pub named-none : {x p named : ℕ} {old : List ℕ} → x < 64 → Sized old → Named x p named old old named
-named-none low size =
+pub named-none : {x p named : ℕ} {old : List ℕ} → x < 64 → Named x p named old old named
+named-none low =
     record {
-      size = size;
+      size = refl;
       keeps = λ s q m. m;
       here = λ k e. absurd (omega arith);
       holds = λ k m. m;
@@ -82,14 +82,14 @@ named-one {x} {p} {named} {more} {old} {new} high put is =
 
 -- Rule p was put into the last row where it mentions no nonterminal.
 pub record Plain (p named : ℕ) (old new : List ℕ) : Type 0 where
-  pub size : Sized new
+  pub size : length new ≡ length old
   pub keeps : (s q : ℕ) → InRow old s q → InRow new s q
   pub here : named ≡ 0 → InRow new 64 p
-  pub source : (s q : ℕ) → q < 256 → InRow new s q → InRow old s q ⊎ ((s ≡ 64) × (q ≡ p) × (named ≡ 0))
+  pub source : (s q : ℕ) → s < 65 → InRow new s q → InRow old s q ⊎ ((s ≡ 64) × (q ≡ p) × (named ≡ 0))
 
-pub plain-none : {p named : ℕ} {old : List ℕ} → Sized old → (named ≡ 0 → ⊥) → Plain p named old old
-plain-none size some =
-    record { size = size; keeps = λ s q m. m; here = λ e. absurd (some e); source = λ s q b m. inl m }
+pub plain-none : {p named : ℕ} {old : List ℕ} → (named ≡ 0 → ⊥) → Plain p named old old
+plain-none some =
+    record { size = refl; keeps = λ s q m. m; here = λ e. absurd (some e); source = λ s q b m. inl m }
 
 pub plain-one : {p named : ℕ} {old new : List ℕ} → Put 64 p old new → named ≡ 0 → Plain p named old new
 plain-one put none =
@@ -103,21 +103,21 @@ plain-one put none =
 -- Rule p was put into the rows of the nonterminals that stand in its right side from symbol i on, and `named` has those.
 pub record Mentioned (ws : List ℕ) (p i : ℕ) (old new : List ℕ) (named : ℕ) : Type 0 where
   pub inside : i ≤ length (rightSide ws p)
-  pub size : Sized new
+  pub size : length new ≡ length old
   pub keeps : (s q : ℕ) → InRow old s q → InRow new s q
   pub puts : (k : ℕ) → List·Memᴰ (64 + k) (drop i (rightSide ws p)) → InRow new k p × (member named k ≡ true)
-  pub source : (s q : ℕ) → q < 256 → InRow new s q → InRow old s q ⊎ (List·Memᴰ (64 + s) (drop i (rightSide ws p)) × (q ≡ p))
+  pub source : (s q : ℕ) → s < 65 → InRow new s q → InRow old s q ⊎ (List·Memᴰ (64 + s) (drop i (rightSide ws p)) × (q ≡ p))
   pub origin : (k : ℕ) → member named k ≡ true → List·Memᴰ (64 + k) (drop i (rightSide ws p))
 
 no-member : {x : ℕ} {l : List ℕ} → l ≡ [] → List·Memᴰ x l → ⊥
 no-member e (List·Memᴰ·head q) = absurd (omega (arith, ap length e))
 no-member e (List·Memᴰ·tail m) = absurd (omega (arith, ap length e))
 
-pub mention-begins : {ws : List ℕ} {p n : ℕ} {old : List ℕ} → SizeOf ws p n → Sized old → Mentioned ws p n old old 0
-mention-begins size sized =
+pub mention-begins : {ws : List ℕ} {p n : ℕ} {old : List ℕ} → SizeOf ws p n → Mentioned ws p n old old 0
+mention-begins size =
     record {
       inside = omega (arith, size .is);
-      size = sized;
+      size = refl;
       keeps = λ s q m. m;
       puts = λ k m. absurd (no-member (right-none size) m);
       source = λ s q b m. inl m;
@@ -129,7 +129,7 @@ pub mention-goes : {ws : List ℕ} {p i x named more : ℕ} {old mid new : List 
 mention-goes {ws} {p} {i} {x} {named} {more} {old} {mid} {new} w some at n =
     record {
       inside = omega (arith, w .inside);
-      size = n .size;
+      size = n .size ∙ w .size;
       keeps = λ s q m. n .keeps s q (w .keeps s q m);
       puts = λ k m. puts k (subst (List·Memᴰ (64 + k)) from m);
       source = λ s q b m.

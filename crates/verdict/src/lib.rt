@@ -9,7 +9,7 @@ ghost use Rattle.grammar.specs.Grammar.{RuleOf, Verdict, startOverEnd};
 ghost use Rattle.sets.specs.Bits.{member};
 ghost use Rattle.base.specs.Telling.{Tells};
 ghost use Rattle.shape.specs.Ready.{Ready};
-ghost use Rattle.growth.specs.Sums.{Blank};
+ghost use Rattle.mentions.specs.Mentions.{Clear, Wide};
 ghost use Rattle.costs.specs.Costed.{Costed};
 ghost use Rattle.firsts.specs.Asked.{Asked};
 ghost use Rattle.firsts.specs.Masks.{FirstsOf};
@@ -88,11 +88,33 @@ fn judge(words: &[u16], places: &mut [u16; 256], costs: &mut [u32], sets: &mut [
     if shape::shape(words, places) {} else {
         return Checked::Refused(Refusal::BadShape);
     }
-    let mut mentions = [0u64; 260];
-    if reachable(words, places, &mut mentions) {} else {
+    if 64 < shape::rule_count(words) {
+        let mut wide = [0u64; 260];
+        return judge_by(words, places, &mut wide, costs, sets);
+    }
+    let mut narrow = [0u64; 65];
+    judge_by(words, places, &mut narrow, costs, sets)
+}
+
+// The conditions behind the first, with room for the table of which rules mention a nonterminal.
+fn judge_by(
+    words: &[u16],
+    places: &[u16],
+    mentions: &mut [u64],
+    costs: &mut [u32],
+    sets: &mut [u64],
+) -> Checked
+    requires { ⌜ Ready (now words) (now places) ⌝ }
+    requires { ⌜ Clear (now mentions) ⌝ }
+    requires { ⌜ Wide (now words) (now mentions) ⌝ }
+    requires { ⌜ length (now costs) ≡ 192 ⌝ }
+    requires { ⌜ length (now sets) ≡ 65 ⌝ }
+    ensures { λ r. ⌜ Judged (now (words .entry)) (now (places .entry)) (now (costs .exit)) (now (sets .exit)) r ⌝ }
+{
+    if reachable(words, places, mentions) {} else {
         return Checked::Refused(Refusal::Unreachable);
     }
-    costs::costs(words, places, &mentions, costs);
+    costs::costs(words, places, mentions, costs);
     if within(words, costs, 60000) {} else {
         return Checked::Refused(unaffordable(words, costs));
     }
@@ -109,7 +131,8 @@ fn judge(words: &[u16], places: &mut [u16; 256], costs: &mut [u32], sets: &mut [
 // Every nonterminal is reachable from START. Fills the table of which rules mention a nonterminal, which the costs go by too.
 fn reachable(words: &[u16], places: &[u16], mentions: &mut [u64]) -> bool
     requires { ⌜ Ready (now words) (now places) ⌝ }
-    requires { ⌜ Blank 260 (now mentions) ⌝ }
+    requires { ⌜ Clear (now mentions) ⌝ }
+    requires { ⌜ Wide (now words) (now mentions) ⌝ }
     ensures { λ r. ⌜ Reaching (now (words .entry)) (now (mentions .exit)) r ⌝ }
 {
     let mut uses = [0u64; 64];

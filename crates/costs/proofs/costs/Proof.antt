@@ -31,13 +31,8 @@ add-size c = search needs
 visit-row-requires : tie.Need-visit-row-requires Inv-loop μ-loop
 visit-row-requires c κs =
     let by-begin = c .before .before .before .before .begin in
-    let start = c .before .before .before .before .before .before .before .before .before .before in (
-      start .pre .0,
-      (
-        start .pre .1 .0,
-        (omega arith, (spans (start .pre .0 .shaped) (c .before .rule-count .ensures), by-begin .ensures .held)),
-      ),
-    )
+    let start = c .before .before .before .before .before .before .before .before .before .before in
+    (start .pre .0, (start .pre .1 .0, (omega arith, (spans (start .pre .1 .0) (c .before .rule-count .ensures), by-begin .ensures .held))))
 
 loop-holds : tie.Need-loop-holds Inv-loop μ-loop
 loop-holds c =
@@ -60,7 +55,7 @@ visit-row-requires-2 c κs =
         start .pre .1 .0,
         (
           omega (arith, c .before .least .ensures .below),
-          (spans (start .pre .0 .shaped) (by-rule-count .ensures), c .before .before .before .loop .inv .held),
+          (spans (start .pre .1 .0) (by-rule-count .ensures), c .before .before .before .loop .inv .held),
         ),
       ),
     )
@@ -90,7 +85,7 @@ loop-again c =
     let loop = c .before .before .before .before .before .before .before .before .loop in
     let start = c .before .before .before .before .before .before .before .before .before .before .before .before .before .before .before .before .before .before .before .before .before .before in
     rw (c .union .ensures) (rw (c .before .without .ensures)
-    (list-goes (start .pre .0 .shaped) (start .pre .1 .0) (loop .inv) (by-least .ensures) (by-visit-row2 .ensures)))
+    (list-goes (start .pre .1 .0) (loop .inv) (by-least .ensures) (by-visit-row2 .ensures)))
 
 same-length : tie.Need-same-length Inv-loop μ-loop
 same-length c =

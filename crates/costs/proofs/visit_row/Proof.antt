@@ -21,7 +21,7 @@ loop-holds c =
 mul-visit-word : tie.Need-mul-visit-word Inv-loop μ-loop
 mul-visit-word c =
     let start = c .before .before .before .before .before .before in
-    omega (arith, start .pre .1 .1 .0)
+    omega (arith, start .pre .1 .1 .1 .0 .few, c .loop-test .taken)
 
 add-visit-word : tie.Need-add-visit-word Inv-loop μ-loop
 add-visit-word c =
@@ -36,15 +36,14 @@ mul-visit-word-2 c =
 shared-slice-read-visit-word : tie.Need-shared-slice-read-visit-word Inv-loop μ-loop
 shared-slice-read-visit-word c =
     let start = c .before .before .before .before .before .before .before in
-    omega (arith, start .pre .1 .1 .1 .0 .few, start .pre .1 .1 .0, c .before .loop-test .taken, start .pre .1 .0 .size)
+    omega (arith, start .pre .1 .1 .1 .0 .few, start .pre .1 .1 .0, c .before .loop-test .taken)
 
 visit-word-requires : tie.Need-visit-word-requires Inv-loop μ-loop
 visit-word-requires c κs =
     let start = c .before .before .before .before .before .before .before .before in (
       start .pre .0,
       (
-        row-rules (start .pre .1 .0) (start .pre .1 .1 .0)
-            (omega (arith, c .before .before .loop-test .taken, start .pre .1 .1 .1 .0 .few)),
+        row-rules (c .before .before .before .loop .w) (start .pre .1 .0) (start .pre .1 .1 .0),
         c .before .before .before .loop .inv .1 .held,
       ),
     )

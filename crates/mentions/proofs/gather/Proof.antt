@@ -2,7 +2,8 @@
 use borrow.Author.Needs.{needs}
 use native.Mathlib.Omega.{arith}
 use Prim.Native.Nat.{_-_, _≤_, _<_, _^_}
-use mathlib.Core.Path.{_≡_, sym, _∙_, subst}
+use mathlib.Core.Path.{_≡_, refl, sym, _∙_, subst}
+use lib.ListN.{length}
 use Rattle.grammar.specs.Words.{ruleCount}
 use Rattle.mentions.specs.Mentions.{Gathered, Used, MentionsOf, UsesOf}
 use Rattle.mentions.specs.Gathering.{gather-begins, gather-goes, gather-ends, use-begins, use-goes, use-ends}
@@ -10,7 +11,8 @@ use Rattle.mentions.proofs.gather.Statement.{statement}
 use Rattle.mentions.proofs.gather.Tie as tie
 
 abbrev Inv-loop : tie.InvT-loop
-Inv-loop words places table₀ uses₀ count p₀ table uses p = (p ≤ ruleCount words) × Gathered words p table × Used words p uses
+Inv-loop words places table₀ uses₀ count p₀ table uses p = (p ≤ ruleCount words) × Gathered words p table × Used words p uses ×
+    (length table ≡ length table₀)
 
 abbrev μ-loop : tie.MeasureT-loop
 μ-loop words places table₀ uses₀ count p₀ table uses p = count - p
@@ -23,21 +25,21 @@ rule-count-requires c κs =
 loop-holds : tie.Need-loop-holds Inv-loop μ-loop
 loop-holds c =
     let start = c .before .before .before .before .before in
-    (omega arith, gather-begins (start .pre .1 .0), use-begins (start .pre .1 .1))
+    (omega arith, gather-begins (start .pre .1 .0) (start .pre .1 .1 .0), use-begins (start .pre .1 .1 .1), refl)
 
 mention-requires : tie.Need-mention-requires Inv-loop μ-loop
 mention-requires c κs =
     let start = c .before .before .before .before .before .before .before .before in
     let below = c .before .loop-test .taken in
-    (start .pre .0, (omega (arith, c .before .before .before .rule-count .ensures), c .before .before .loop .inv .1 .size))
+    (start .pre .0, (omega (arith, c .before .before .before .rule-count .ensures), c .before .before .loop .inv .1 .wide))
 
 put-plain-requires : tie.Need-put-plain-requires Inv-loop μ-loop
 put-plain-requires c κs =
     let loop-test = c .before .before .before .before .before .loop-test in
+    let loop = c .before .before .before .before .before .before .loop in
     let by-rule-count = c .before .before .before .before .before .before .before .rule-count in
-    let start = c .before .before .before .before .before .before .before .before .before .before .before .before in
     let below = loop-test .taken in
-    (c .before .before .before .mention .ensures .size, omega (arith, by-rule-count .ensures, start .pre .0 .shaped .rules-high))
+    omega (arith, by-rule-count .ensures, c .before .before .before .mention .ensures .size, loop .inv .1 .wide)
 
 left-of-requires : tie.Need-left-of-requires Inv-loop μ-loop
 left-of-requires c κs =
@@ -75,17 +77,16 @@ loop-again c =
           (by-mention .ensures) (by-put-plain .ensures),
       use-goes (loop .inv .2) (c .before .before .before .left-of .ensures)
           (by-mention .ensures) (c .before .before .add-to .ensures),
+      by-put-plain .ensures .size ∙ (by-mention .ensures .size ∙ loop .inv .3),
     )
 
 same-length : tie.Need-same-length Inv-loop μ-loop
-same-length c =
-    let start = c .before .before .before .before .before .before .before in
-    c .before .loop .inv .1 .size ∙ sym (start .pre .1 .0 .size)
+same-length c = c .before .loop .inv .3
 
 same-length-2 : tie.Need-same-length-2 Inv-loop μ-loop
 same-length-2 c =
     let start = c .before .before .before .before .before .before .before in
-    c .before .loop .inv .2 .size ∙ sym (start .pre .1 .1 .size)
+    c .before .loop .inv .2 .size ∙ sym (start .pre .1 .1 .1 .size)
 
 returns : tie.Need-returns Inv-loop μ-loop
 returns c =

@@ -16,27 +16,20 @@ size-of-requires : tie.Need-size-of-requires Inv-loop μ-loop
 size-of-requires c κs = (c .before .before .before .pre .0, c .before .before .before .pre .1 .0)
 
 loop-holds : tie.Need-loop-holds Inv-loop μ-loop
-loop-holds c =
-    let start = c .before .before .before .before in
-    mention-begins (c .size-of .ensures) (start .pre .1 .1)
+loop-holds c = mention-begins (c .size-of .ensures)
 
 sub-i : tie.Need-sub-i Inv-loop μ-loop
 sub-i c = search needs
 
 symbol-at-requires : tie.Need-symbol-at-requires Inv-loop μ-loop
 symbol-at-requires c κs =
-    let by-before = c .before .before .before .before .before .before .before in
-    let start = by-before in
-    let inside = c .before .before .loop .inv .inside in
-    (start .pre .0, (start .pre .1 .0, omega arith))
+    let start = c .before .before .before .before .before .before .before in
+    (start .pre .0, (start .pre .1 .0, omega (arith, c .before .before .loop .inv .inside)))
 
 name-requires : tie.Need-name-requires Inv-loop μ-loop
 name-requires c κs =
-    let by-before = c .before .before .before .before .before .before .before .before in
-    let start = by-before in
-    let count = start .pre .0 .shaped .rules-high in
-    let below = start .pre .1 .0 in
-    (c .before .before .before .loop .inv .size, (c .symbol-at .ensures .small, omega arith))
+    let start = c .before .before .before .before .before .before .before .before in
+    (omega (arith, c .before .before .before .loop .inv .size, start .pre .1 .0, start .pre .1 .1), c .symbol-at .ensures .small)
 
 loop-less : tie.Need-loop-less Inv-loop μ-loop
 loop-less c = search needs
@@ -48,9 +41,7 @@ loop-again c =
     mention-goes (loop .inv) (loop-test .taken) (c .before .before .before .symbol-at .ensures) (c .before .before .name .ensures)
 
 same-length : tie.Need-same-length Inv-loop μ-loop
-same-length c =
-    let start = c .before .before .before .before .before .before in
-    c .before .loop .inv .size ∙ sym (start .pre .1 .1)
+same-length c = c .before .loop .inv .size
 
 returns : tie.Need-returns Inv-loop μ-loop
 returns c = mention-ends (c .before .loop .inv) (omega (arith, c .loop-test .left))

@@ -6,13 +6,13 @@ use Rattle.mentions.proofs.name.Statement.{statement}
 use Rattle.mentions.proofs.name.Tie as tie
 
 returns : tie.Need-returns
-returns c = named-none (c .if1 .taken) (c .before .before .pre .0)
+returns c = named-none (c .if1 .taken)
 
 cast-put : tie.Need-cast-put
 cast-put c = search needs
 
 put-requires : tie.Need-put-requires
-put-requires c κs = search needs
+put-requires c κs = (c .before .before .before .pre .0, omega (arith, c .before .before .before .pre .1))
 
 with-requires : tie.Need-with-requires
 with-requires c κs = search needs

@@ -17,7 +17,7 @@ returns c =
     plain-one (c .before .before .put .ensures) (by-if1 .taken)
 
 returns-2 : tie.Need-returns-2
-returns-2 c = plain-none (c .before .before .pre .0) (c .if1 .left)
+returns-2 c = plain-none (c .if1 .left)
 
 pub put-plain-spec : {M : Type 1} → statement M
 put-plain-spec = tie.close (tie.spec put-requires same-length returns returns-2)

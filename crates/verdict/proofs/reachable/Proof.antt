@@ -13,9 +13,8 @@ slice-aggregate-gather c = search needs
 
 gather-requires : tie.Need-gather-requires
 gather-requires c κs =
-    let by-before = c .before .before .before .before .before in
-    let start = by-before in
-    (start .pre .0, (start .pre .1, blank-made 64))
+    let start = c .before .before .before .before .before in
+    (start .pre .0, (start .pre .1 .0, (start .pre .1 .1, blank-made 64)))
 
 slice-aggregate-reach : tie.Need-slice-aggregate-reach
 slice-aggregate-reach c = search needs
@@ -32,7 +31,6 @@ same-length c = search needs
 returns : tie.Need-returns
 returns c =
     let by-gather = c .before .before .before .before .before .before .gather in
-    let by-gather = by-gather in
     let exact = reach-exact (by-gather .ensures .1) (c .before .reach .ensures) in
     record {
       gathered = by-gather .ensures .0;
