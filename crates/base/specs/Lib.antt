@@ -2,3 +2,4 @@ pub mod Choices
 pub mod Telling
 pub mod Clearing
 pub mod Written
+pub mod Blank

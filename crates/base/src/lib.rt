@@ -82,17 +82,6 @@ pub fn clear_bytes(bytes: &mut [u8], from: usize)
     }
 }
 
-// Every number of 32 bits becomes zero.
-pub fn clear_longs(longs: &mut [u32])
-    ensures { λ _. ⌜ now (longs .exit) ≡ replicate (length (now (longs .entry))) 0 ⌝ }
-{
-    let mut i = 0;
-    while i < longs.len() {
-        longs[i] = 0;
-        i += 1;
-    }
-}
-
 // Every number becomes zero.
 pub fn clear_numbers(numbers: &mut [u64])
     ensures { λ _. ⌜ now (numbers .exit) ≡ replicate (length (now (numbers .entry))) 0 ⌝ }

@@ -1,17 +1,17 @@
 -- The first table: no cost for any nonterminal, so that nothing is claimed of any.
---     terminals-begin, terminals-go, terminals-end           the costs of the terminals in a clear table
+--     terminals-begin, terminals-go, terminals-end           the costs of the terminals in a table of zeros
 --     nonterminals-go, nonterminals-end                      and of the nonterminals
 use Prim.Native.Nat.{ℕ, zero, suc, _+_, _-_, _≤_, _<_}
 use mathlib.Core.Path.{_≡_, sym, ap, _∙_, subst}
 use mathlib.Core.List.{List}
 use mathlib.Core.Logic.{_⊎_, inl, inr, ⊎-elim}
 use native.Mathlib.Omega.{arith}
-use lib.ListN.{length, set, replicate, length-set, length-replicate}
+use lib.ListN.{length, set, length-set}
 use lib.Seq.{getD-set-same, getD-set-other}
 use Rattle.base.specs.Choices.{below-or, below-or-at}
 use Rattle.grammar.specs.Words.{terminalCount, nonterminalCount, insertCost, Shaped}
-use Rattle.growth.specs.Sums.{all-zero}
-use Rattle.costs.specs.Held.{Cleared, Begun, Fresh, entry}
+use Rattle.base.specs.Blank.{Blank}
+use Rattle.costs.specs.Held.{Begun, Fresh, entry}
 
 -- ---- The terminals
 
@@ -21,15 +21,8 @@ pub record Filled (ws : List ℕ) (t : ℕ) (l : List ℕ) : Type 0 where
   pub terminal : (x : ℕ) → x < t → entry l x ≡ insertCost ws x
   pub beyond : (X : ℕ) → t ≤ X → entry l X ≡ 0
 
-pub made-clear : {l : List ℕ} (room : ℕ) → room ≡ 192 → l ≡ replicate room 0 → Cleared l
-made-clear {l} room size e =
-    record {
-      size = ap length e ∙ (length-replicate {A = ℕ} room 0 ∙ size);
-      nothing = λ X. ap (λ (m : List ℕ). entry m X) e ∙ all-zero room X;
-    }
-
-pub terminals-begin : (ws : List ℕ) {l : List ℕ} → Cleared l → Filled ws 0 l
-terminals-begin ws c = record { size = c .size; terminal = λ x h. absurd (omega arith); beyond = λ X h. c .nothing X }
+pub terminals-begin : (ws : List ℕ) {l : List ℕ} → Blank 192 l → Filled ws 0 l
+terminals-begin ws c = record { size = c .size; terminal = λ x h. absurd (omega arith); beyond = λ X h. c .zeros X }
 
 pub terminals-go : {ws l : List ℕ} {t c : ℕ} → Filled ws t l → t < 192 → c ≡ insertCost ws t → Filled ws (t + 1) (set l t c)
 terminals-go {ws} {l} {t} {c} f small e =

@@ -20,11 +20,6 @@ pub record Limited (l : List ℕ) : Type 0 where
   pub size : length l ≡ 192
   pub limit : (X : ℕ) → entry l X ≤ 1000000
 
--- Nothing stands in the table.
-pub record Cleared (l : List ℕ) : Type 0 where
-  pub size : length l ≡ 192
-  pub nothing : (X : ℕ) → entry l X ≡ 0
-
 -- The terminals have their costs, the first k nonterminals none, and nothing else stands there.
 pub record Begun (ws : List ℕ) (k : ℕ) (l : List ℕ) : Type 0 where
   pub size : length l ≡ 192

@@ -5,17 +5,17 @@
 ghost use mathlib.Core.Path.{_≡_};
 ghost use Prim.Native.Nat.{_+_, _*_, _<_};
 ghost use mathlib.Core.Bool.{true};
-ghost use lib.ListN.{length};
 ghost use Rattle.sets.specs.Bits.{member};
 ghost use Rattle.grammar.specs.Grammar.{RuleOf};
 ghost use Rattle.grammar.specs.Words.{Shaped, nonterminalCount, rightSide, ruleCount};
 ghost use Rattle.grammar.specs.theory.Masks.{NullMask};
 ghost use Rattle.grammar.specs.theory.Closed.{total};
 ghost use Rattle.shape.specs.Ready.{Ready};
+ghost use Rattle.base.specs.Blank.{Blank};
 ghost use Rattle.mentions.specs.Mentions.{InRow, MentionsOf};
 ghost use Rattle.costs.specs.Costed.{Costed};
 ghost use Rattle.costs.specs.Empty.{Freed};
-ghost use Rattle.costs.specs.Held.{Begun, Cleared, Fresh, Held, Limited, entry};
+ghost use Rattle.costs.specs.Held.{Begun, Fresh, Held, Limited, entry};
 ghost use Rattle.costs.specs.Visiting.{Capped, Chosen, Fell, InWord, Known, Revised, RulesOf, Spans};
 
 // What stands for a cost above 60,000.
@@ -24,12 +24,12 @@ const OVER: u32 = 60001;
 // What stands for the cost of a nonterminal that derives no terminal string: more than eight costs together.
 const NONE: u32 = 1000000;
 
-// Fills the table. A cost of at most 60,000 is exact, and so is its rule; one of 60,001 says that the nonterminal derives terminal
+// Fills the table, which holds nothing. A cost of at most 60,000 is exact, and so is its rule; one of 60,001 says that the nonterminal derives terminal
 // strings, and none of cost 60,000 or less: refusal 8; one of 1,000,000 that it derives none: refusal 7.
 pub fn costs(words: &[u16], places: &[u16], mentions: &[u64], table: &mut [u32])
     requires { ⌜ Ready (now words) (now places) ⌝ }
     requires { ⌜ MentionsOf (now words) (now mentions) ⌝ }
-    requires { ⌜ length (now table) ≡ 192 ⌝ }
+    requires { ⌜ Blank 192 (now table) ⌝ }
     ensures { λ _. ⌜ Costed (now (words .entry)) (now (table .exit)) ⌝ }
 {
     begin(words, table);
@@ -74,10 +74,9 @@ fn freed(mask: u64, k: u16, cost: u32) -> u64
 // All of them, and no rule.
 fn begin(words: &[u16], table: &mut [u32])
     requires { ⌜ Shaped (now words) ⌝ }
-    requires { ⌜ length (now table) ≡ 192 ⌝ }
+    requires { ⌜ Blank 192 (now table) ⌝ }
     ensures { λ _. ⌜ Fresh (now (words .entry)) (now (table .exit)) ⌝ }
 {
-    base::clear_longs(table);
     begin_terminals(words, table);
     begin_nonterminals(words, table);
 }
@@ -85,7 +84,7 @@ fn begin(words: &[u16], table: &mut [u32])
 // A terminal's insert cost.
 fn begin_terminals(words: &[u16], table: &mut [u32])
     requires { ⌜ Shaped (now words) ⌝ }
-    requires { ⌜ Cleared (now table) ⌝ }
+    requires { ⌜ Blank 192 (now table) ⌝ }
     ensures { λ _. ⌜ Begun (now (words .entry)) 0 (now (table .exit)) ⌝ }
 {
     let count = shape::terminal_count(words);

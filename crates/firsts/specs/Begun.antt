@@ -14,7 +14,7 @@ use Rattle.grammar.specs.Words.{Terminal, ruleCount, leftSide, rightSide}
 use Rattle.grammar.specs.Derivation.{First}
 use Rattle.grammar.specs.Grammar.{RuleOf}
 use Rattle.sets.specs.Bits.{member}
-use Rattle.growth.specs.Sums.{Blank}
+use Rattle.base.specs.Blank.{Blank}
 use Rattle.growth.specs.Added.{Kept, blank-none}
 use Rattle.growth.specs.Closing.{Closing, Comes, Listed, closing-has}
 use Rattle.firsts.specs.Asked.{Asked}

@@ -6,6 +6,7 @@ ghost use mathlib.Core.List.{[], _∷_};
 ghost use Prim.Native.Nat.{_<_};
 ghost use lib.ListN.{length};
 ghost use Rattle.grammar.specs.Words.{rightSide, ruleCount};
+ghost use Rattle.base.specs.Blank.{Blank};
 ghost use Rattle.firsts.specs.Opens.{FirstWith};
 ghost use Rattle.firsts.specs.Masks.{FirstsOf};
 ghost use Rattle.firsts.specs.Asked.{Asked, RuleFirstsOf};
@@ -14,10 +15,10 @@ ghost use Rattle.firsts.specs.Begun.{AllLed, Begun, Led};
 // FIRST of each nonterminal: the tokens that stand first in its right sides, and FIRST of each nonterminal that can stand first there.
 pub fn firsts(words: &[u16], places: &[u16], null: u64, out: &mut [u64])
     requires { ⌜ Asked (now words) (now places) null (now out) ⌝ }
+    requires { ⌜ Blank 64 (now out) ⌝ }
     ensures { λ _. ⌜ FirstsOf (now (words .entry)) (now (out .exit)) ⌝ }
 {
     let mut feeds = [0u64; 64];
-    base::clear_numbers(out);
     let list = begin(words, places, null, &mut feeds, out);
     growth::close(&feeds, list, out);
 }

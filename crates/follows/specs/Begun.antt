@@ -17,7 +17,7 @@ use Rattle.shape.specs.Accessors.{LeftOf}
 use Rattle.sets.specs.Bits.{member}
 use Rattle.sets.specs.Operations.{with}
 use Rattle.sets.specs.Laws.{with-same, with-keeps}
-use Rattle.growth.specs.Sums.{Blank}
+use Rattle.base.specs.Blank.{Blank}
 use Rattle.growth.specs.Added.{Added, blank-none}
 use Rattle.growth.specs.Closing.{Closing, Comes, Listed, Noted, closing-has}
 use Rattle.firsts.specs.Opens.{Opens}

@@ -16,7 +16,7 @@ use Rattle.shape.specs.Accessors.{SizeOf, SymbolAt, right-none, right-from}
 use Rattle.sets.specs.Bits.{member}
 use Rattle.sets.specs.Operations.{with}
 use Rattle.sets.specs.Laws.{empty-none, with-same, with-cases}
-use Rattle.growth.specs.Sums.{Blank}
+use Rattle.base.specs.Blank.{Blank}
 use Rattle.growth.specs.Added.{Added, Kept, blank-none}
 use Rattle.firsts.specs.Opens.{Opens, FirstWith}
 use Rattle.firsts.specs.Masks.{opens-exact}

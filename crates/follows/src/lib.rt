@@ -7,7 +7,7 @@ ghost use Prim.Native.Nat.{_<_};
 ghost use lib.ListN.{length};
 ghost use Rattle.grammar.specs.Words.{ruleCount};
 ghost use Rattle.base.specs.Telling.{Tells};
-ghost use Rattle.growth.specs.Sums.{Blank};
+ghost use Rattle.base.specs.Blank.{Blank};
 ghost use Rattle.follows.specs.Follows.{FollowsOf, Needed, SoundFollows};
 ghost use Rattle.follows.specs.Feeding.{AddedBehind};
 ghost use Rattle.follows.specs.Lasts.{NotedLast, NullBy};

@@ -11,7 +11,8 @@ use Rattle.base.specs.Choices.{same-or}
 use Rattle.sets.specs.Bits.{member}
 use Rattle.sets.specs.Operations.{union}
 use Rattle.sets.specs.Laws.{empty-none, union-left, union-right, union-cases, union-grows, union-unchanged, same-members}
-use Rattle.growth.specs.Sums.{sum, sum-set, Blank}
+use Rattle.base.specs.Blank.{Blank}
+use Rattle.growth.specs.Sums.{sum, sum-set}
 
 -- Nothing is lost.
 abbrev pub Kept : List ℕ → List ℕ → Type 0

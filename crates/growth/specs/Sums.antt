@@ -1,12 +1,12 @@
 -- The sum of a list of numbers, by which a table is ranked: a set that gains a member is a larger number, so the sum of sets
 -- rises. Then what is known of a list that is filled from the front.
 use Prim.Native.Nat.{ℕ, zero, suc, _+_, _*_, _^_, _≤_, _<_}
-use mathlib.Core.Path.{_≡_, refl, sym, ap, _∙_, subst}
-use mathlib.Core.List.{List, [], _∷_, _++_, append-nil}
+use mathlib.Core.Path.{_≡_, sym, ap, subst}
+use mathlib.Core.List.{List, [], _∷_}
 use native.Mathlib.Omega.{arith}
 use borrow.Author.Count.{below-more}
 use native.Mathlib.Nat.{suc-mul, mul-le-mul-right}
-use lib.ListN.{length, getD, set, replicate, drop, drop-of-length-le, length-replicate}
+use lib.ListN.{length, getD, set}
 use lib.Seq.{getD-set-same, getD-set-other}
 use mir.Syntax.{w64}
 use mir.Val.{Fits}
@@ -31,11 +31,6 @@ sum-bound (x ∷ l) b f =
     let head = f 0 in
     omega (arith, suc-mul (length l) b)
 
--- A list all of whose elements were made 0.
-pub filled : (l : List ℕ) (i : ℕ) → i ≡ length l → replicate i 0 ++ drop i l ≡ replicate (length l) 0
-filled l i e =
-    ap (λ r. replicate i 0 ++ r) (drop-of-length-le l {i = i} (omega arith)) ∙ (append-nil (replicate i 0) ∙ ap (λ n. replicate n 0) e)
-
 -- A list that is filled from the front, one element a turn: what is known of each element in front of p.
 pub filled-more : (P : ℕ → ℕ → Type 0) (l : List ℕ) (p v : ℕ) → p < length l → ((q : ℕ) → q < p → P q (getD l q 0)) → P p v
     → (q : ℕ) → q < p + 1 → P q (getD (set l p v) q 0)
@@ -43,23 +38,6 @@ filled-more P l p v h f g =
     below-more (λ q. P q (getD (set l p v) q 0)) p
     (λ q below. subst (P q) (sym (getD-set-other l p q v 0 (λ same. omega arith))) (f q below))
     (subst (P p) (sym (getD-set-same l p v 0 h)) g)
-
--- A list of zeros has nothing else.
-pub all-zero : (n k : ℕ) → _≡_ {A = ℕ} (getD (replicate n 0) k 0) 0
-all-zero zero k = refl
-all-zero (suc n) zero = refl
-all-zero (suc n) (suc k) = all-zero n k
-
--- So many numbers, all 0; a list that was just made; and one that was cleared.
-pub record Blank (n : ℕ) (l : List ℕ) : Type 0 where
-  pub size : length l ≡ n
-  pub zeros : (i : ℕ) → getD l i 0 ≡ 0
-
-pub blank-made : (n : ℕ) → Blank n (replicate n 0)
-blank-made n = record { size = length-replicate {A = ℕ} n 0; zeros = all-zero n }
-
-pub blank-cleared : {l : List ℕ} {n m : ℕ} → l ≡ replicate n 0 → n ≡ m → Blank m l
-blank-cleared {l} {n} e same = subst (λ k. Blank k l) same (subst (Blank n) (sym e) (blank-made n))
 
 -- Loops end: the sum of 64 sets stays below 64 * 2 ^ 64.
 pub sum-below : (l : List ℕ) → length l ≡ 64 → ((i : ℕ) → Fits w64 (getD l i 0)) → sum l ≤ 64 * 2 ^ 64

@@ -18,7 +18,7 @@ use Rattle.shape.specs.Accessors.{LeftOf}
 use Rattle.sets.specs.Bits.{member}
 use Rattle.sets.specs.Laws.{empty-none, some-member, same-members}
 use Rattle.sets.specs.Taking.{member-below}
-use Rattle.growth.specs.Sums.{Blank}
+use Rattle.base.specs.Blank.{Blank}
 use Rattle.growth.specs.Added.{Added}
 use Rattle.mentions.specs.Mentions.{Clear, Mentions, InRow, Gathered, Uses, Used, Wide}
 use Rattle.mentions.specs.Putting.{Mentioned, Plain}

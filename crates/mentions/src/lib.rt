@@ -5,7 +5,7 @@ ghost use mathlib.Core.Path.{_≡_};
 ghost use Prim.Native.Nat.{_<_};
 ghost use Rattle.grammar.specs.Words.{ruleCount};
 ghost use Rattle.shape.specs.Ready.{Ready};
-ghost use Rattle.growth.specs.Sums.{Blank};
+ghost use Rattle.base.specs.Blank.{Blank};
 ghost use Rattle.mentions.specs.Mentions.{Clear, MentionsOf, UsesOf, Wide};
 ghost use Rattle.mentions.specs.Putting.{HasWord, Mentioned, Named, Plain, Put};
 

@@ -20,6 +20,7 @@ use Rattle.grammar.specs.theory.Answers.{log-tokens, parses-asking}
 use Rattle.grammar.specs.theory.Conditions.{all-met, applies, passes, held-front, refused-front}
 use Rattle.grammar.specs.theory.Good.{accepted, good-words}
 use Rattle.grammar.specs.theory.Tables.{Inner, sizedOf, Cheap, cheap-of}
+use Rattle.base.specs.Blank.{Blank, blank-made}
 use Rattle.base.specs.Telling.{Tells, denied}
 use Rattle.moves.specs.Tests.{le-or-lt}
 use Rattle.verdict.specs.Answer.{Tabled, verdict-in}
@@ -95,10 +96,14 @@ SettledAs Asked ws log editRoom ruleRoom editBuffer ruleBuffer (parsing.Parsed c
 SettledAs Asked ws log editRoom ruleRoom editBuffer ruleBuffer (parsing.Refused r) =
     Settled (runConditions ws log Asked) (RunOf ws log editRoom ruleRoom) (refused r)
 
--- The sizes of the two tables that a caller lends.
+-- The sizes of the two tables that a caller lends. In the first nothing stands yet.
 pub record Lent (prices sides : List ℕ) : Type 0 where
-  pub prices-size : length prices ≡ 256
+  pub prices-blank : Blank 256 prices
   pub sides-size : length sides ≡ 512
+
+-- Tables that were just made will do.
+pub lent-made : Lent (replicate 256 0) (replicate 512 0)
+lent-made = record { prices-blank = blank-made 256; sides-size = blank-made 512 .size }
 
 -- Where the log is not refused, the tables have each nonterminal's cheapest rule and the right sides.
 unfoldable pub CheapWhere : List ℕ → List ℕ → List ℕ → Parsing → Type 0

@@ -14,7 +14,7 @@ use Rattle.grammar.specs.theory.RightSides.{rule-at}
 use Rattle.shape.specs.Accessors.{LeftOf}
 use Rattle.sets.specs.Bits.{member}
 use Rattle.sets.specs.Operations.{Shared}
-use Rattle.growth.specs.Sums.{Blank}
+use Rattle.base.specs.Blank.{Blank}
 use Rattle.growth.specs.Added.{Added, blank-none}
 use Rattle.predicts.specs.Predicts.{PredictRule, PredictMask}
 

@@ -4,7 +4,7 @@ ghost use Rattle.grammar.specs.Words.{ruleCount};
 ghost use Rattle.grammar.specs.Derivation.{NoneShared};
 ghost use Rattle.grammar.specs.Grammar.{RuleOf, startOverEnd};
 ghost use Rattle.base.specs.Telling.{Tells};
-ghost use Rattle.growth.specs.Sums.{Blank};
+ghost use Rattle.base.specs.Blank.{Blank};
 ghost use Rattle.predicts.specs.Predicts.{Known, PredictMask};
 
 // No two rules of one nonterminal share a predict token. `seen` has the union of each nonterminal's rules so far,

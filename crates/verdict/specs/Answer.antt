@@ -14,6 +14,7 @@ use Rattle.grammar.specs.Grammar.{RuleOf, EachNonterminal, Verdict, grammarOf, 
 use Rattle.grammar.specs.theory.Conditions.{lowest-unique}
 use Rattle.grammar.specs.theory.Tables.{Inner, Shared, Pushes}
 use Rattle.grammar.specs.declared.Refusal.{Refusal}
+use Rattle.base.specs.Blank.{Blank}
 use Rattle.base.specs.Telling.{Tells}
 use Rattle.shape.specs.Ready.{Ready}
 use Rattle.mentions.specs.Mentions.{MentionsOf}
@@ -75,10 +76,10 @@ PricedAs ws prices r = Answered ws (Priced ws prices) r
 abbrev pub Tabled : List ℕ → List ℕ → List ℕ → List ℕ → List ℕ → Checked → Type 0
 Tabled ws sets prices sides rows r = Answered ws (Tables ws sets prices sides rows) r
 
--- The sizes of the lent tables.
+-- The sizes of the lent tables. In two of them nothing may stand yet, so that nothing is cleared twice.
 pub record Sizes (sets prices sides rows : List ℕ) : Type 0 where
-  pub sets-size : length sets ≡ 65
-  pub prices-size : length prices ≡ 256
+  pub sets-blank : Blank 65 sets
+  pub prices-blank : Blank 256 prices
   pub sides-size : length sides ≡ 512
   pub rows-size : length rows ≡ 4224
 

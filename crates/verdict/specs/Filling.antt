@@ -19,7 +19,7 @@ use Rattle.sets.specs.Bits.{member}
 use Rattle.sets.specs.Laws.{Some, empty-none, some-member}
 use Rattle.shape.specs.Accessors.{LeftOf}
 use Rattle.firsts.specs.Asked.{RuleFirstsOf}
-use Rattle.growth.specs.Sums.{all-zero}
+use Rattle.base.specs.Blank.{all-zero}
 use Rattle.verdict.specs.Parts.{part-length, inside-part, before-part, each-entry}
 use Rattle.verdict.specs.Rows.{RowTo, row-packed}
 use Rattle.shape.specs.Inside.{right-small}

@@ -9,6 +9,7 @@ ghost use Rattle.grammar.specs.Grammar.{RuleOf, Verdict, startOverEnd};
 ghost use Rattle.sets.specs.Bits.{member};
 ghost use Rattle.base.specs.Telling.{Tells};
 ghost use Rattle.shape.specs.Ready.{Ready};
+ghost use Rattle.base.specs.Blank.{Blank};
 ghost use Rattle.mentions.specs.Mentions.{Clear, Wide};
 ghost use Rattle.costs.specs.Costed.{Costed};
 ghost use Rattle.firsts.specs.Asked.{Asked};
@@ -46,7 +47,7 @@ pub fn check(words: &[u16]) -> Checked
 // The grammar check, and for accepted words the cost of each symbol and the cheapest rule of each nonterminal. On a refusal what stands in
 // the table means nothing.
 pub fn priced(words: &[u16], prices: &mut [u32]) -> Checked
-    requires { ⌜ length (now prices) ≡ 192 ⌝ }
+    requires { ⌜ Blank 192 (now prices) ⌝ }
     ensures { λ r. ⌜ PricedAs (now (words .entry)) (now (prices .exit)) r ⌝ }
 {
     let mut places = [0u16; 256];
@@ -81,8 +82,8 @@ pub fn tables(
 // The conditions in their order, each over the whole grammar before the next. FOLLOW is exact only where every nonterminal
 // is reachable, so that the last test rests on the second.
 fn judge(words: &[u16], places: &mut [u16; 256], costs: &mut [u32], sets: &mut [u64]) -> Checked
-    requires { ⌜ length (now costs) ≡ 192 ⌝ }
-    requires { ⌜ length (now sets) ≡ 65 ⌝ }
+    requires { ⌜ Blank 192 (now costs) ⌝ }
+    requires { ⌜ Blank 65 (now sets) ⌝ }
     ensures { λ r. ⌜ Judged (now (words .entry)) (now (places .exit)) (now (costs .exit)) (now (sets .exit)) r ⌝ }
 {
     if shape::shape(words, places) {} else {
@@ -107,8 +108,8 @@ fn judge_by(
     requires { ⌜ Ready (now words) (now places) ⌝ }
     requires { ⌜ Clear (now mentions) ⌝ }
     requires { ⌜ Wide (now words) (now mentions) ⌝ }
-    requires { ⌜ length (now costs) ≡ 192 ⌝ }
-    requires { ⌜ length (now sets) ≡ 65 ⌝ }
+    requires { ⌜ Blank 192 (now costs) ⌝ }
+    requires { ⌜ Blank 65 (now sets) ⌝ }
     ensures { λ r. ⌜ Judged (now (words .entry)) (now (places .entry)) (now (costs .exit)) (now (sets .exit)) r ⌝ }
 {
     if reachable(words, places, mentions) {} else {
@@ -182,6 +183,7 @@ fn within(words: &[u16], costs: &[u32], limit: u32) -> bool
 // No two rules of one nonterminal share a predict token. Fills the table of FIRST.
 fn predictable(words: &[u16], places: &[u16], null: u64, firsts: &mut [u64]) -> bool
     requires { ⌜ Asked (now words) (now places) null (now firsts) ⌝ }
+    requires { ⌜ Blank 64 (now firsts) ⌝ }
     requires { ⌜ Reached (now words) ⌝ }
     ensures { λ r. ⌜ Predicted (now (words .entry)) (now (firsts .exit)) r ⌝ }
 {

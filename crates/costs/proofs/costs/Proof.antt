@@ -90,7 +90,7 @@ loop-again c =
 same-length : tie.Need-same-length Inv-loop μ-loop
 same-length c =
     let start = c .before .before .before .before .before .before .before .before .before .before .before .before .before .before .before in
-    c .before .loop .inv .held .size ∙ sym (start .pre .1 .1)
+    c .before .loop .inv .held .size ∙ sym (start .pre .1 .1 .size)
 
 returns : tie.Need-returns Inv-loop μ-loop
 returns c =

@@ -1,6 +1,7 @@
 -- `desk::costs` meets its contract: both buffers are clear when the words are judged, and stay so where they are refused.
 use borrow.Author.Needs.{needs}
 use Rattle.grammar.specs.theory.Fills.{made-clear, lent-clear}
+use Rattle.base.specs.Blank.{blank-made}
 use Rattle.verdict.specs.Answer.{verdict-in}
 use Rattle.desk.proofs.Listing.{unchecked, as-lent}
 use Rattle.desk.proofs.costs.Statement.{statement}
@@ -16,7 +17,7 @@ slice-aggregate-priced : tie.Need-slice-aggregate-priced
 slice-aggregate-priced c = search needs
 
 priced-requires : tie.Need-priced-requires
-priced-requires c κs = search needs
+priced-requires c κs = blank-made 192
 
 enum-told : tie.Need-enum-told
 enum-told c = search needs

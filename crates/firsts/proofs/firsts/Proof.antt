@@ -1,22 +1,17 @@
 -- `firsts::firsts` meets its contract: the pass begins with empty tables, and what comes of it along the list is FIRST (`begun-closed`).
-use Rattle.growth.specs.Sums.{blank-made, blank-cleared}
+use Rattle.base.specs.Blank.{blank-made}
 use Rattle.firsts.specs.Begun.{begin-begins, begun-closed}
 use borrow.Author.Needs.{needs}
 use Rattle.firsts.proofs.firsts.Statement.{statement}
 use Rattle.firsts.proofs.firsts.Tie as tie
-
-clear-numbers-requires : tie.Need-clear-numbers-requires
-clear-numbers-requires c κs = search needs
 
 slice-aggregate-begin : tie.Need-slice-aggregate-begin
 slice-aggregate-begin c = search needs
 
 begin-requires : tie.Need-begin-requires
 begin-requires c κs =
-    let start = c .before .before .before .before .before .before .before .before .before in
-    let clear-numbers = c .before .before .before .before .clear-numbers in
-    let begun = begin-begins (blank-made 64) (blank-cleared (clear-numbers .ensures) (start .pre .size)) in
-    (record { ready = start .pre .ready; nulls = start .pre .nulls; size = begun .sound .size }, begun)
+    let start = c .before .before .before .before .before in
+    (start .pre .0, begin-begins (blank-made 64) (start .pre .1))
 
 slice-aggregate-close : tie.Need-slice-aggregate-close
 slice-aggregate-close c = search needs
@@ -30,10 +25,10 @@ same-length c = search needs
 returns : tie.Need-returns
 returns c =
     let begun = c .before .before .before .before .before .before .before .before in
-    let start = begun .before .before .before .before .before .before .before .before .before .before in
-    begun-closed (start .pre) (begun .begin .ensures) (c .before .before .close .ensures)
+    let start = begun .before .before .before .before .before .before in
+    begun-closed (start .pre .0) (begun .begin .ensures) (c .before .before .close .ensures)
 
 pub firsts-spec : {M : Type 1} → statement M
 firsts-spec =
     tie.close
-    (tie.spec clear-numbers-requires slice-aggregate-begin begin-requires slice-aggregate-close close-requires same-length returns)
+    (tie.spec slice-aggregate-begin begin-requires slice-aggregate-close close-requires same-length returns)

@@ -1,6 +1,6 @@
 -- `follows::follows` meets its contract: the pass begins with END behind START, and what comes of it along the list is FOLLOW
 -- (`begun-closed`).
-use Rattle.growth.specs.Sums.{blank-made}
+use Rattle.base.specs.Blank.{blank-made}
 use Rattle.follows.specs.Feeding.{follows-begin}
 use Rattle.follows.specs.Begun.{begin-begins, begun-closed}
 use borrow.Author.Needs.{needs}

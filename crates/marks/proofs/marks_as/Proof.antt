@@ -1,8 +1,8 @@
 -- `marks::marks_as` meets its contract: refusals 5 to 12 of the parse, then 15, or the marks.
 use native.Mathlib.Omega.{arith}
-use Rattle.marks.proofs.Answering.{marks-can-put, marks-whole, marks-short, marks-unparsed}
 use mathlib.Core.Path.{refl}
-use native.Mathlib.Omega.{arith}
+use Rattle.parser.specs.Parses.{lent-made}
+use Rattle.marks.proofs.Answering.{marks-can-put, marks-whole, marks-short, marks-unparsed}
 use borrow.Author.Needs.{needs}
 use Rattle.marks.proofs.marks_as.Statement.{statement}
 use Rattle.marks.proofs.marks_as.Tie as tie
@@ -14,7 +14,7 @@ slice-aggregate-parse-tabled-2 : tie.Need-slice-aggregate-parse-tabled-2
 slice-aggregate-parse-tabled-2 c = search needs
 
 parse-tabled-requires : tie.Need-parse-tabled-requires
-parse-tabled-requires c κs = search needs
+parse-tabled-requires c κs = lent-made
 
 enum-known-parsing : tie.Need-enum-known-parsing
 enum-known-parsing c = search needs

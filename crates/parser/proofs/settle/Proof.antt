@@ -1,8 +1,8 @@
 -- `parser::settle` meets its contract: refusals 5 to 10, or the run; and the tables where the words are accepted.
 use native.Mathlib.Omega.{arith}
-use native.Mathlib.Omega.{arith}
-use mathlib.Core.Path.{_≡_}
+use mathlib.Core.Path.{_≡_, refl}
 use mathlib.Core.Bool.{true}
+use Rattle.base.specs.Blank.{blank-made}
 use Rattle.parser.specs.Parses.{check-refuses, cheap-refused, log-can, log-refuses, run-can, run-cheap, run-settles}
 use borrow.Author.Needs.{needs}
 use Rattle.parser.proofs.settle.Statement.{statement}
@@ -15,7 +15,9 @@ slice-aggregate-tables-2 : tie.Need-slice-aggregate-tables-2
 slice-aggregate-tables-2 c = search needs
 
 tables-requires : tie.Need-tables-requires
-tables-requires c κs = search needs
+tables-requires c κs =
+    let start = c .before .before .before .before .before .before .before .before .before .before in
+    record { sets-blank = blank-made 65; prices-blank = start .pre .prices-blank; sides-size = start .pre .sides-size; rows-size = refl }
 
 enum-told : tie.Need-enum-told
 enum-told c = search needs

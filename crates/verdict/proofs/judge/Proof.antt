@@ -1,6 +1,6 @@
 -- `verdict::judge` meets its contract: the shape first, then the other conditions, with room for as many rules as there are.
 use native.Mathlib.Omega.{arith}
-use Rattle.growth.specs.Sums.{blank-made}
+use Rattle.base.specs.Blank.{blank-made}
 use Rattle.verdict.specs.Answer.{refusing}
 use Rattle.verdict.specs.Judge.{refused-5}
 use borrow.Author.Needs.{needs}

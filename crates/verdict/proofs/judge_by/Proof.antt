@@ -1,6 +1,7 @@
 -- `verdict::judge_by` meets its contract: each test tells its condition, in the order of document 01.
 use native.Mathlib.Omega.{arith}
 use mathlib.Core.Path.{_∙_}
+use Rattle.base.specs.Blank.{blank-part}
 use Rattle.verdict.specs.Answer.{accepting, refusing}
 use Rattle.verdict.specs.Judge.{refused-6, refused-9, refused-dear, productive-limited, accepted}
 use Rattle.verdict.specs.Prices.{afford-all}
@@ -62,7 +63,7 @@ predictable-requires c κs =
     let by-reachable = c .before .before .before .before .before .before .before .before .before .before .before .before .before .before .reachable in
     let start = c .before .before .before .before .before .before .before .before .before .before .before .before .before .before .before .before .before .before .before .before .before in (
       record { ready = start .pre .0; nulls = c .before .empties .ensures; size = c .predictable-arg .given .2 },
-      by-reachable .ensures .tells .yes (by-if1 .taken),
+      (blank-part 0 64 (start .pre .1 .1 .1 .1) (omega arith), by-reachable .ensures .tells .yes (by-if1 .taken)),
     )
 
 same-length-4 : tie.Need-same-length-4
@@ -90,7 +91,7 @@ returns-3 c =
 slice-write-sets : tie.Need-slice-write-sets
 slice-write-sets c =
     let start = c .before .before .before .before .before .before .before .before .before .before .before .before .before .before .before .before .before .before .before .before .before .before .before .before .before in
-    omega (arith, c .before .before .sets .given .1, start .pre .1 .1 .1 .1)
+    omega (arith, c .before .before .sets .given .1, start .pre .1 .1 .1 .1 .size)
 
 same-length-7 : tie.Need-same-length-7
 same-length-7 c = search needs
@@ -122,7 +123,7 @@ returns-4 c =
       costed = costed;
       limited = limited;
       exact = sets-filled (start .args .sets .now) _ _ (ready .shaped)
-          (start .pre .1 .1 .1 .1) size (c .before .before .before .predictable .ensures .exact) (by-empties .ensures);
+          (start .pre .1 .1 .1 .1 .size) size (c .before .before .before .predictable .ensures .exact) (by-empties .ensures);
     })
 
 pub judge-by-spec : {M : Type 1} → statement M

@@ -13,7 +13,7 @@ unshared-requires c κs =
     let firsts = c .before .before .before .firsts in
     let asked = start .pre .0 in (
       record { ready = asked .ready; nulls = asked .nulls; size = firsts .kept .1 .1 .1 .0 ∙ asked .size },
-      (firsts .ensures, start .pre .1),
+      (firsts .ensures, start .pre .1 .1),
     )
 
 same-length : tie.Need-same-length

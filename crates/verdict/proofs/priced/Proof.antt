@@ -1,5 +1,6 @@
 -- `verdict::priced` meets its contract: the table as `judge` leaves it.
 use borrow.Author.Needs.{needs}
+use Rattle.base.specs.Blank.{blank-made}
 use Rattle.verdict.specs.Answer.{judged-priced}
 use Rattle.verdict.proofs.priced.Statement.{statement}
 use Rattle.verdict.proofs.priced.Tie as tie
@@ -8,7 +9,7 @@ slice-aggregate-judge : tie.Need-slice-aggregate-judge
 slice-aggregate-judge c = search needs
 
 judge-requires : tie.Need-judge-requires
-judge-requires c κs = search needs
+judge-requires c κs = (c .before .before .before .before .before .pre, blank-made 65)
 
 same-length : tie.Need-same-length
 same-length c = search needs

@@ -2,7 +2,7 @@
 use native.Mathlib.Omega.{arith}
 use mathlib.Core.Path.{_≡_, sym, _∙_, subst}
 use Rattle.base.specs.Telling.{tells-as}
-use Rattle.growth.specs.Sums.{blank-made}
+use Rattle.base.specs.Blank.{blank-made}
 use Rattle.mentions.specs.Reaching.{reach-exact}
 use borrow.Author.Needs.{needs}
 use Rattle.verdict.proofs.reachable.Statement.{statement}

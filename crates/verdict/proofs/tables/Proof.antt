@@ -1,5 +1,7 @@
 -- `verdict::tables` meets its contract: the answer, and the tables where it accepts.
 use borrow.Author.Needs.{needs}
+use native.Mathlib.Omega.{arith}
+use Rattle.base.specs.Blank.{blank-part}
 use Rattle.verdict.specs.Answer.{accepting, refusing, verdict-in, shared}
 use Rattle.verdict.proofs.tables.Statement.{statement}
 use Rattle.verdict.proofs.tables.Tie as tie
@@ -14,7 +16,9 @@ part-judge-end : tie.Need-part-judge-end
 part-judge-end c = search needs
 
 judge-requires : tie.Need-judge-requires
-judge-requires c κs = search needs
+judge-requires c κs =
+    let start = c .before .before .before .before .before .before .before .before in
+    (blank-part 0 192 (start .pre .prices-blank) (omega arith), start .pre .sets-blank)
 
 enum-told : tie.Need-enum-told
 enum-told c = search needs
@@ -65,7 +69,7 @@ returns c =
     let accepted = told .enum-told .given .1 in
     let limits = c .before .before .before .before .before .before .before .before .before .before .before .limits .ensures in
     accepting (verdict-in (judge .judge .ensures) accepted) (record {
-      shared = shared (start .args .prices .now) _ (judge .judge .ensures .known accepted) (start .pre .prices-size) limits;
+      shared = shared (start .args .prices .now) _ (judge .judge .ensures .known accepted) (start .pre .prices-blank .size) limits;
       pushes = c .before .before .before .before .fill .ensures;
     })
 

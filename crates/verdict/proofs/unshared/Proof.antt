@@ -1,6 +1,6 @@
 -- `verdict::unshared` meets its contract: FOLLOW is filled into a table that was just made, and `predicts::none_shared` tells.
 use mathlib.Core.Path.{refl}
-use Rattle.growth.specs.Sums.{blank-made}
+use Rattle.base.specs.Blank.{blank-made}
 use borrow.Author.Needs.{needs}
 use Rattle.verdict.proofs.unshared.Statement.{statement}
 use Rattle.verdict.proofs.unshared.Tie as tie
