@@ -16,7 +16,7 @@ use Rattle.grammar.specs.theory.Closed.{total}
 use Rattle.grammar.specs.theory.Members.{all-at}
 use Rattle.grammar.specs.theory.RightSides.{right-symbols}
 use Rattle.sets.specs.Bits.{member}
-use Rattle.sets.specs.Operations.{union, without, Least}
+use Rattle.sets.specs.Operations.{union, without, Greatest}
 use Rattle.sets.specs.Laws.{empty-none, union-left, union-none}
 use Rattle.sets.specs.Taking.{without-keeps, without-less}
 use Rattle.growth.specs.Sums.{first-less, second-less}
@@ -88,7 +88,7 @@ module _ {ws l : List ℕ} (s : Shaped ws) (fresh : Fresh ws l) where
 
 -- ---- The list
 
-pub list-goes : {ws mentions old new : List ℕ} {list k fallen : ℕ} → MentionsOf ws mentions → Listing ws old list → Least list k
+pub list-goes : {ws mentions old new : List ℕ} {list k fallen : ℕ} → MentionsOf ws mentions → Listing ws old list → Greatest list k
     → Revised ws (InRow mentions k) old new fallen → Listing ws new (union (without list k) fallen)
 list-goes {ws} {mentions} {old} {new} {list} {k} {fallen} m f at v =
     record { held = v .held; waits = λ q h. ⊎-elim (waiting q h) (λ settled. visited q h (inr settled)) (f .waits q h) }
@@ -126,7 +126,7 @@ list-ends f e =
 abbrev pub left : List ℕ → ℕ → ℕ
 left l list = costSum l * 2 ^ 64 + list
 
-pub list-less : {ws old new : List ℕ} {Done : ℕ → Type 0} {list k fallen : ℕ} → Least list k → Revised ws Done old new fallen
+pub list-less : {ws old new : List ℕ} {Done : ℕ → Type 0} {list k fallen : ℕ} → Greatest list k → Revised ws Done old new fallen
     → union (without list k) fallen < 2 ^ 64 → left new (union (without list k) fallen) < left old list
 list-less {old = old} {new} {list = list} {k} {fallen} at v small =
     ⊎-elim

@@ -1,7 +1,8 @@
 // The cost of each symbol and the cheapest rule of each nonterminal, in one table: entry t is the insert cost of terminal t, entry 64 + k
 // the cost of nonterminal k, entry 128 + k the number of its cheapest rule. Costs begin above every sum and fall: a list has the
-// nonterminals whose cost fell, and only the rules that mention one of them are visited again. The sum of the costs falls with each that
-// goes on the list, and is the measure. The lowest of the rules that reach a cost is noted along with it.
+// nonterminals whose cost fell, and only the rules that mention one of them are visited again. What a nonterminal is made of mostly has
+// higher numbers, so the greatest is taken first. The sum of the costs falls with each that goes on the list, and is the measure. The lowest
+// of the rules that reach a cost is noted along with it.
 ghost use mathlib.Core.Path.{_≡_};
 ghost use Prim.Native.Nat.{_+_, _*_, _<_};
 ghost use mathlib.Core.Bool.{true};
@@ -36,7 +37,7 @@ pub fn costs(words: &[u16], places: &[u16], mentions: &[u64], table: &mut [u32])
     let size = (shape::rule_count(words) + 63) / 64;
     let mut list = visit_row(words, places, mentions, mentions::NOTHING, size, table);
     while 0 < list {
-        let k = sets::least(list);
+        let k = sets::greatest(list);
         let fallen = visit_row(words, places, mentions, k as usize, size, table);
         list = sets::union(sets::without(list, k), fallen);
     }

@@ -12,7 +12,8 @@ ghost use Rattle.firsts.specs.Masks.{FirstsOf};
 ghost use Rattle.firsts.specs.Asked.{Asked, RuleFirstsOf};
 ghost use Rattle.firsts.specs.Begun.{AllLed, Begun, Led};
 
-// FIRST of each nonterminal: the tokens that stand first in its right sides, and FIRST of each nonterminal that can stand first there.
+// FIRST of each nonterminal: the tokens that stand first in its right sides, and FIRST of each nonterminal that can stand first there. START
+// has the lowest number and what it is made of mostly higher ones, so sets are passed on from the highest down.
 pub fn firsts(words: &[u16], places: &[u16], null: u64, out: &mut [u64])
     requires { ⌜ Asked (now words) (now places) null (now out) ⌝ }
     requires { ⌜ Blank 64 (now out) ⌝ }
@@ -20,7 +21,7 @@ pub fn firsts(words: &[u16], places: &[u16], null: u64, out: &mut [u64])
 {
     let mut feeds = [0u64; 64];
     let list = begin(words, places, null, &mut feeds, out);
-    growth::close(&feeds, list, out);
+    growth::close(&feeds, list, true, out);
 }
 
 // FIRST of each right side, from FIRST of each nonterminal.

@@ -14,6 +14,7 @@ ghost use Rattle.follows.specs.Lasts.{NotedLast, NullBy};
 ghost use Rattle.follows.specs.Begun.{AllFed, Begun, RuleFed};
 
 // FOLLOW of each nonterminal: what begins the rest behind it in a right side, and FOLLOW of the left side where it can stand last there.
+// Left sides mostly have lower numbers than what they are made of, so sets are passed on from the lowest up.
 pub fn follows(words: &[u16], places: &[u16], null: u64, firsts: &[u64], out: &mut [u64])
     requires { ⌜ Needed (now words) (now places) null (now firsts) (now out) ⌝ }
     requires { ⌜ Blank 64 (now out) ⌝ }
@@ -22,7 +23,7 @@ pub fn follows(words: &[u16], places: &[u16], null: u64, firsts: &[u64], out: &m
     let mut feeds = [0u64; 64];
     growth::add_to(out, 0, sets::with(0, 0));
     let list = begin(words, places, null, firsts, &mut feeds, out);
-    growth::close(&feeds, list, out);
+    growth::close(&feeds, list, false, out);
 }
 
 // Every rule once: its nonterminals get what begins the rest behind them, and its left side feeds those that can stand last. Gives the

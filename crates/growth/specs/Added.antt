@@ -1,12 +1,14 @@
 -- A list of sets to one of which a mask was added.
 use Prim.Native.Nat.{ℕ, _^_, _<_}
 use mathlib.Core.Path.{_≡_, refl, sym, ap, _∙_, subst}
-use mathlib.Core.Bool.{Bool, true, false, true≢false, false≢true}
+use mathlib.Core.Bool.{Bool, true, false, not, true≢false, false≢true}
 use mathlib.Core.List.{List}
 use mathlib.Core.Logic.{_⊎_, inl, inr, ⊎-elim}
 use native.Mathlib.Omega.{arith}
 use lib.ListN.{length, getD, set, length-set}
-use lib.Seq.{ext-getD, getD-set-same, getD-set-other}
+use lib.Dec.{eqb}
+use lib.Seq.{ext-getD, getD-set-same, getD-set-other, set-getD}
+use borrow.Author.Tests.{eqb-true, eqb-false}
 use Rattle.base.specs.Choices.{same-or}
 use Rattle.sets.specs.Bits.{member}
 use Rattle.sets.specs.Operations.{union}
@@ -71,6 +73,20 @@ module _ (old : List ℕ) (k mask : ℕ) (inside : k < length old) where
         holds = λ t m. subst (λ s. member s t ≡ true) (sym (changed-at k refl)) (union-right (getD old k 0) mask t m);
         source = λ j t m. comes-from j t (same-or j k) m;
       }
+
+  -- The union is put in its place in any case, and whether it is another set is told.
+  pub added-told-by : (u : ℕ) → u ≡ union (getD old k 0) mask → Added old k mask (set old k u) (not (eqb u (getD old k 0)))
+  added-told-by u is = at (eqb u (getD old k 0)) refl
+    where
+      here : set old k u ≡ set old k (union (getD old k 0) mask)
+      here = ap (set old k) is
+
+      at : (b : Bool) → eqb u (getD old k 0) ≡ b → Added old k mask (set old k u) (not b)
+      at true e =
+          let same = eqb-true u (getD old k 0) e in
+          subst (λ l. Added old k mask l false) (sym (ap (set old k) same ∙ set-getD old k 0)) (added-nothing old k mask (sym is ∙ same))
+      at false e =
+          subst (λ l. Added old k mask l true) (sym here) (added-some (λ same. eqb-false u (getD old k 0) e (is ∙ same)))
 
 -- ---- Only one answer: of lists of 64 bit numbers, the members fix the numbers
 

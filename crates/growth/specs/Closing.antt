@@ -1,13 +1,14 @@
 -- Sets that are passed on along a list until nothing changes. `feeds` has for each set the numbers of the sets that are to hold it too;
 -- the list has the numbers of the sets that may have to be passed on, as the bits of a word: each stands there at most once.
---     feed-begins, feed-goes, feed-ends      one set is passed on to those that it feeds
---     close-begins, close-goes, close-ends   the list: what is not on it is passed on already
---     close-less                             it ends: a set that goes on it has grown
---     closing-has                            what is so of all that is there at first and is passed on is so of all that comes
---     closing-one, noted-one                 the answer is one
+--     end-high, end-low, end-below, end-held         which one is taken off the list
+--     feed-none, feed-begins, feed-goes, feed-ends   one set is passed on to those that it feeds
+--     close-begins, close-goes, close-ends           the list: what is not on it is passed on already
+--     close-less                                     it ends: a set that goes on it has grown
+--     closing-has                                    what is so of all that is there at first and is passed on is so of all that comes
+--     closing-one, noted-one                         the answer is one
 use Prim.Native.Nat.{ℕ, _+_, _-_, _*_, _^_, _≤_, _<_}
 use mathlib.Core.Path.{_≡_, refl, sym, ap, _∙_, subst}
-use mathlib.Core.Bool.{Bool, true, false}
+use mathlib.Core.Bool.{Bool, true, false, true≢false}
 use mathlib.Core.List.{List}
 use mathlib.Core.Logic.{_⊎_, _↔_, inl, inr, ⊎-elim}
 use native.Mathlib.Omega.{arith}
@@ -15,7 +16,7 @@ use lib.ListN.{length, getD}
 use lib.Seq.{ext-getD}
 use Rattle.base.specs.Choices.{same-or, below-or}
 use Rattle.sets.specs.Bits.{member}
-use Rattle.sets.specs.Operations.{with, union, without, Least}
+use Rattle.sets.specs.Operations.{with, union, without, Greatest, Least}
 use Rattle.sets.specs.Laws.{empty-none, with-same, with-keeps, union-left, union-right, union-none, same-members}
 use Rattle.sets.specs.Taking.{without-keeps, without-was, without-less}
 use Rattle.growth.specs.Sums.{sum, first-less, second-less}
@@ -55,6 +56,26 @@ pub noted-one : {s i r q : ℕ} (yes : Bool) → Noted s i yes r → Noted s i y
 noted-one true a b = a .noted refl ∙ sym (b .noted refl)
 noted-one false a b = a .same refl ∙ sym (b .same refl)
 
+-- The number i is at one end of the set.
+pub record EndOf (s : ℕ) (high : Bool) (i : ℕ) : Type 0 where
+  pub greatest : high ≡ true → Greatest s i
+  pub least : high ≡ false → Least s i
+
+pub end-high : {s i : ℕ} {high : Bool} → high ≡ true → Greatest s i → EndOf s high i
+end-high e g = record { greatest = λ _. g; least = λ f. absurd (true≢false (sym e ∙ f)) }
+
+pub end-low : {s i : ℕ} {high : Bool} → high ≡ false → Least s i → EndOf s high i
+end-low e l = record { greatest = λ f. absurd (true≢false (sym f ∙ e)); least = λ _. l }
+
+-- So it is one of the set's.
+pub end-below : {s i : ℕ} (high : Bool) → EndOf s high i → i < 64
+end-below true e = e .greatest refl .below
+end-below false e = e .least refl .below
+
+pub end-held : {s i : ℕ} (high : Bool) → EndOf s high i → member s i ≡ true
+end-held true e = e .greatest refl .held
+end-held false e = e .least refl .held
+
 -- ---- One set is passed on
 
 -- Sets that are not in `grown` hold nothing new, and those in it do.
@@ -84,6 +105,18 @@ feed-begins fed mask old =
       within = λ j m. m;
       keeps = λ j t m. m;
       holds = λ j m n. absurd (n m);
+      source = λ j t m. inl m;
+      grew = record { noted = λ j n t m. m; level = λ e. refl; raised = λ l. absurd (omega arith) };
+    }
+
+-- A set without members adds nothing.
+pub feed-none : (fed : ℕ) {mask : ℕ} (old : List ℕ) → mask ≡ 0 → Fed fed mask old old 0
+feed-none fed {mask} old e =
+    record {
+      same = refl;
+      within = λ j m. absurd (empty-none j m);
+      keeps = λ j t m. m;
+      holds = λ j m n t k. absurd (empty-none t (subst (λ s. member s t ≡ true) e k));
       source = λ j t m. inl m;
       grew = record { noted = λ j n t m. m; level = λ e. refl; raised = λ l. absurd (omega arith) };
     }
@@ -167,9 +200,9 @@ close-begins feeds begun list size listed =
       passed = λ k n j m. absurd (n (listed k j m));
     }
 
-pub close-goes : {feeds begun old new : List ℕ} {list k fed mask grown : ℕ} → Opened feeds begun old list → Least list k
-    → fed ≡ getD feeds k 0 → mask ≡ getD old k 0 → Fed fed mask old new grown → Opened feeds begun new (union (without list k) grown)
-close-goes {feeds} {begun} {old} {new} {list} {k} {fed} {mask} {grown} o at isFed isMask f =
+pub close-goes : {feeds begun old new : List ℕ} {list k fed mask grown : ℕ} (high : Bool) → Opened feeds begun old list
+    → EndOf list high k → fed ≡ getD feeds k 0 → mask ≡ getD old k 0 → Fed fed mask old new grown → Opened feeds begun new (union (without list k) grown)
+close-goes {feeds} {begun} {old} {new} {list} {k} {fed} {mask} {grown} high o at isFed isMask f =
     record {
       size = f .same ∙ o .size;
       sound = λ i t m.
@@ -185,7 +218,7 @@ close-goes {feeds} {begun} {old} {new} {list} {k} {fed} {mask} {grown} o at isFe
           f .holds j (subst (λ s. member s j ≡ true) (sym isFed) (subst (λ a. member (getD feeds a 0) j ≡ true) (sym e) m)) (empty-none j) t
           (subst (λ s. member s t ≡ true) (sym isMask) (subst (λ a. member (getD old a 0) t ≡ true) (sym e) was)))
           (λ other.
-          f .keeps j t (o .passed i (λ g. n (union-left (without list k) grown i (without-keeps list k i (at .held) other g))) j m t was))
+          f .keeps j t (o .passed i (λ g. n (union-left (without list k) grown i (without-keeps list k i (end-held high at) other g))) j m t was))
           (same-or k i);
     }
 
@@ -205,14 +238,14 @@ close-ends {feeds} {begun} {sets} {list} o e =
 abbrev pub left : List ℕ → ℕ → ℕ
 left sets list = (64 * 2 ^ 64 - sum sets) * 2 ^ 64 + list
 
-pub close-less : {list k fed mask grown : ℕ} {old new : List ℕ} → Least list k → Fed fed mask old new grown → sum new ≤ 64 * 2 ^ 64
+pub close-less : {list k fed mask grown : ℕ} {old new : List ℕ} (high : Bool) → EndOf list high k → Fed fed mask old new grown → sum new ≤ 64 * 2 ^ 64
     → union (without list k) grown < 2 ^ 64 → left new (union (without list k) grown) < left old list
-close-less {list} {k} {grown = grown} {old} {new} at f limit small =
+close-less {list} {k} {grown = grown} {old} {new} high at f limit small =
     ⊎-elim
     (λ none.
     let z : grown ≡ 0 = omega arith in
     let rest = ap (λ g. union (without list k) g) z ∙ union-none (without list k) in
-    let less = without-less list k (at .held) in
+    let less = without-less list k (end-held high at) in
     second-less (2 ^ 64) (64 * 2 ^ 64 - sum old) (64 * 2 ^ 64 - sum new) list (union (without list k) grown)
     (ap (λ l. 64 * 2 ^ 64 - sum l) (f .grew .level z)) (subst (λ n. n < list) (sym rest) less))
     (λ some.

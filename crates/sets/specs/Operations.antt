@@ -31,6 +31,12 @@ pub record Least (s i : ℕ) : Type 0 where
   pub held : member s i ≡ true
   pub least : (j : ℕ) → j < i → member s j ≡ true → ⊥
 
+-- The greatest number of the set s is i.
+pub record Greatest (s i : ℕ) : Type 0 where
+  pub below : i < 64
+  pub held : member s i ≡ true
+  pub greatest : (j : ℕ) → i < j → member s j ≡ true → ⊥
+
 -- The set r has what is in a and not in b.
 pub record Beyond (a b r : ℕ) : Type 0 where
   pub exact : (i : ℕ) → (member r i ≡ true) ↔ ((member a i ≡ true) × (member b i ≡ true → ⊥))

@@ -2,9 +2,10 @@
 --     without-gone, without-keeps, without-was   what is in `without s i`
 --     without-less                               it is a smaller number
 --     least-of                                   the least number is that of the zeros below the lowest bit
+--     greatest-of                                the greatest number is that of the highest bit
 --     beyond-of                                  what is in a and not in b, by the complement of b
 --     below-of                                   the numbers below n
---     least-one, beyond-one, below-one           each is one
+--     least-one, greatest-one, beyond-one, below-one   each is one
 use Prim.Native.Nat.{ℕ, zero, suc, _+_, _-_, _*_, _/_, _%_, _^_, _≤_, _<_}
 use mathlib.Core.Bool.{true}
 use mathlib.Core.Path.{_≡_, refl, sym, ap, _∙_, subst}
@@ -12,11 +13,11 @@ use mathlib.Core.Logic.{_⊎_, inl, inr, ⊎-elim}
 use native.Mathlib.Omega.{arith}
 use native.Mathlib.Nat.{pow-suc, one-mul, mod-eq-of-lt, div-div-eq-div-mul}
 use lib.Bits.{bitAnd}
-use lib.Count.{trailingZeros, under}
-use lib.Pow.{pow-add, pow-pos, pow-lt}
+use lib.Count.{leadingZeros, trailingZeros, under, leading-top}
+use lib.Pow.{pow-add, pow-pos, pow-lt, pow-mono}
 use Rattle.base.specs.Choices.{below-or}
 use Rattle.sets.specs.Bits.{member}
-use Rattle.sets.specs.Operations.{without, Below, Least, Beyond}
+use Rattle.sets.specs.Operations.{without, Below, Least, Greatest, Beyond}
 use Rattle.sets.specs.Laws.{bit, bit-small, member-bit, bit-member, and-bit, bit-suc, bit-zero, zero-bit, bit-cases, half-below, same-members}
 
 -- ---- Without a number
@@ -107,6 +108,26 @@ least-of s some small =
       held = bit-member s (trailingZeros 64 s) (least-bit 64 s some small);
       least = λ j h m. omega (arith, least-none 64 s j h, member-bit s j m);
     }
+
+-- ---- The greatest number
+
+-- A number from 2 ^ j on and below the double has bit j.
+top-bit : (s j : ℕ) → 2 ^ j ≤ s → s < 2 ^ suc j → bit s j ≡ 1
+top-bit s zero low high = omega (arith, bit-zero s)
+top-bit s (suc j) low high =
+    bit-suc s j ∙ top-bit (s / 2) j (omega (arith, pow-suc 2 j)) (omega (arith, pow-suc 2 (suc j)))
+
+pub greatest-of : (s : ℕ) → 0 < s → s < 2 ^ 64 → (leadingZeros 64 s ≤ 63) × Greatest s (63 - leadingZeros 64 s)
+greatest-of s some small =
+    let top = leading-top 64 s some small in
+    let is : top .0 ≡ 63 - leadingZeros 64 s = omega (arith, top .1) in (
+      omega (arith, top .1),
+      subst (Greatest s) is (record {
+        below = omega (arith, top .1);
+        held = bit-member s (top .0) (top-bit s (top .0) (top .2) (top .3));
+        greatest = λ j h m. omega (arith, power-below s j m, top .3, pow-mono {i = suc (top .0)} {j = j} h);
+      }),
+    )
 
 -- ---- Beyond another set
 
@@ -209,6 +230,11 @@ pub least-one : {s i j : ℕ} → Least s i → Least s j → i ≡ j
 least-one {s} {i} {j} a b =
     ⊎-elim (λ less. absurd (b .least i less (a .held)))
     (λ more. ⊎-elim (λ less. absurd (a .least j less (b .held))) (λ less. omega arith) (below-or j i)) (below-or i j)
+
+pub greatest-one : {s i j : ℕ} → Greatest s i → Greatest s j → i ≡ j
+greatest-one {s} {i} {j} a b =
+    ⊎-elim (λ less. absurd (a .greatest j less (b .held)))
+    (λ more. ⊎-elim (λ less. absurd (b .greatest i less (a .held))) (λ less. omega arith) (below-or j i)) (below-or i j)
 
 pub beyond-one : {a b r q : ℕ} → Beyond a b r → Beyond a b q → r < 2 ^ 64 → q < 2 ^ 64 → r ≡ q
 beyond-one {r = r} {q} f g l m =

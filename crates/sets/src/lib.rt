@@ -6,7 +6,16 @@ ghost use mathlib.Core.Bool.{true};
 ghost use Prim.Native.Nat.{_≤_, _<_};
 ghost use Rattle.sets.specs.Bits.{member};
 ghost use Rattle.base.specs.Telling.{Tells};
-ghost use Rattle.sets.specs.Operations.{with, union, without, Below, Beyond, Least, Shared};
+ghost use Rattle.sets.specs.Operations.{
+  with,
+  union,
+  without,
+  Below,
+  Beyond,
+  Greatest,
+  Least,
+  Shared,
+};
 
 // Number i is in the set.
 pub fn has(s: u64, i: u16) -> bool
@@ -44,6 +53,14 @@ pub fn least(s: u64) -> u16
     ensures { λ r. ⌜ Least s r ⌝ }
 {
     u64::trailing_zeros(s) as u16
+}
+
+// The greatest number of a set that has some.
+pub fn greatest(s: u64) -> u16
+    requires { ⌜ 0 < s ⌝ }
+    ensures { λ r. ⌜ Greatest s r ⌝ }
+{
+    63 - u64::leading_zeros(s) as u16
 }
 
 // The set without i, which is in it.

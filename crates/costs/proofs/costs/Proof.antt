@@ -40,11 +40,11 @@ loop-holds c =
     let start = c .before .before .before .before .before .before .before .before .before .before .before .before .before in
     list-begins (start .pre .0 .shaped) (by-begin .ensures) (start .pre .1 .0) (c .before .before .visit-row .ensures)
 
-least-requires : tie.Need-least-requires Inv-loop μ-loop
-least-requires c κs = c .loop-test .taken
+greatest-requires : tie.Need-greatest-requires Inv-loop μ-loop
+greatest-requires c κs = c .loop-test .taken
 
 cast-visit-row : tie.Need-cast-visit-row Inv-loop μ-loop
-cast-visit-row c = record { fits = omega (arith, c .least .ensures .below) }
+cast-visit-row c = record { fits = omega (arith, c .greatest .ensures .below) }
 
 visit-row-requires-2 : tie.Need-visit-row-requires-2 Inv-loop μ-loop
 visit-row-requires-2 c κs =
@@ -54,7 +54,7 @@ visit-row-requires-2 c κs =
       (
         start .pre .1 .0,
         (
-          omega (arith, c .before .least .ensures .below),
+          omega (arith, c .before .greatest .ensures .below),
           (spans (start .pre .1 .0) (by-rule-count .ensures), c .before .before .before .loop .inv .held),
         ),
       ),
@@ -62,8 +62,8 @@ visit-row-requires-2 c κs =
 
 without-requires : tie.Need-without-requires Inv-loop μ-loop
 without-requires c κs =
-    let by-least = c .before .before .before .before .least in
-    (by-least .ensures .below, by-least .ensures .held)
+    let by-greatest = c .before .before .before .before .greatest in
+    (by-greatest .ensures .below, by-greatest .ensures .held)
 
 union-requires : tie.Need-union-requires Inv-loop μ-loop
 union-requires c κs = search needs
@@ -71,21 +71,21 @@ union-requires c κs = search needs
 loop-less : tie.Need-loop-less Inv-loop μ-loop
 loop-less c =
     let by-visit-row2 = c .before .before .before .before .visit-row2 in
-    let by-least = c .before .before .before .before .before .before .least in
+    let by-greatest = c .before .before .before .before .before .before .greatest in
     let loop = c .before .before .before .before .before .before .before .before .loop in
     let is = c .union .ensures ∙ ap (λ n. union n (by-visit-row2 .result)) (c .before .without .ensures) in
     let small : c .union .result < 2 ^ 64 = search needs in
     subst (λ n. left (by-visit-row2 .last .1 .1 .1 .1 .1 .0) n < left (loop .table) (loop .list)) (sym is)
-    (list-less (by-least .ensures) (by-visit-row2 .ensures) (subst (λ n. n < 2 ^ 64) is small))
+    (list-less (by-greatest .ensures) (by-visit-row2 .ensures) (subst (λ n. n < 2 ^ 64) is small))
 
 loop-again : tie.Need-loop-again Inv-loop μ-loop
 loop-again c =
     let by-visit-row2 = c .before .before .before .before .visit-row2 in
-    let by-least = c .before .before .before .before .before .before .least in
+    let by-greatest = c .before .before .before .before .before .before .greatest in
     let loop = c .before .before .before .before .before .before .before .before .loop in
     let start = c .before .before .before .before .before .before .before .before .before .before .before .before .before .before .before .before .before .before .before .before .before .before in
     rw (c .union .ensures) (rw (c .before .without .ensures)
-    (list-goes (start .pre .1 .0) (loop .inv) (by-least .ensures) (by-visit-row2 .ensures)))
+    (list-goes (start .pre .1 .0) (loop .inv) (by-greatest .ensures) (by-visit-row2 .ensures)))
 
 same-length : tie.Need-same-length Inv-loop μ-loop
 same-length c =
@@ -108,7 +108,7 @@ costs-spec =
     add-size
     visit-row-requires
     loop-holds
-    least-requires
+    greatest-requires
     cast-visit-row
     visit-row-requires-2
     without-requires

@@ -1,6 +1,5 @@
--- `growth::add_to` meets its contract: where the union is the set itself, nothing was to be done.
-use mathlib.Core.Path.{sym, _∙_}
-use Rattle.growth.specs.Added.{added-nothing, added-some}
+-- `growth::add_to` meets its contract: the union is put in the set's place, and where it is the set itself nothing changes.
+use Rattle.growth.specs.Added.{added-told-by}
 use borrow.Author.Needs.{needs}
 use Rattle.growth.proofs.add_to.Statement.{statement}
 use Rattle.growth.proofs.add_to.Tie as tie
@@ -14,9 +13,6 @@ slice-read-old c = search needs
 union-requires : tie.Need-union-requires
 union-requires c κs = search needs
 
-returns : tie.Need-returns
-returns c = added-nothing _ _ _ (sym (c .before .union .ensures) ∙ c .if1 .taken)
-
 mul-all : tie.Need-mul-all
 mul-all c = search needs
 
@@ -26,10 +22,8 @@ slice-write-all c = search needs
 same-length : tie.Need-same-length
 same-length c = search needs
 
-returns-2 : tie.Need-returns-2
-returns-2 c =
-    let start = c .before .before .before .before in
-    rw (c .before .union .ensures) (added-some _ _ _ (start .pre) (λ e. c .if1 .left (c .before .union .ensures ∙ e)))
+returns : tie.Need-returns
+returns c = added-told-by _ _ _ (c .before .before .before .pre) _ (c .union .ensures)
 
 pub add-to-spec : {M : Type 1} → statement M
-add-to-spec = tie.close (tie.spec mul-old slice-read-old union-requires returns mul-all slice-write-all same-length returns-2)
+add-to-spec = tie.close (tie.spec mul-old slice-read-old union-requires mul-all slice-write-all same-length returns)

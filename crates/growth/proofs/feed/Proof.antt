@@ -1,11 +1,11 @@
--- `growth::feed` meets its contract: the mask is added to all but the rest. The measure is the rest.
+-- `growth::feed` meets its contract: a mask without members adds nothing; any other is added to all but the rest. The measure is the rest.
 use borrow.Author.Needs.{needs}
 use native.Mathlib.Omega.{arith}
 use Prim.Native.Nat.{ℕ, _<_}
 use mathlib.Core.Path.{_≡_, sym, _∙_, subst}
 use lib.ListN.{length}
 use Rattle.sets.specs.Taking.{without-less}
-use Rattle.growth.specs.Closing.{Feeding, feed-begins, feed-goes, feed-ends}
+use Rattle.growth.specs.Closing.{Feeding, feed-none, feed-begins, feed-goes, feed-ends}
 use Rattle.growth.proofs.feed.Statement.{statement}
 use Rattle.growth.proofs.feed.Tie as tie
 
@@ -14,6 +14,9 @@ Inv-loop fed mask sets₀ rest₀ grown₀ sets rest grown = Feeding fed mask re
 
 abbrev μ-loop : tie.MeasureT-loop
 μ-loop fed mask sets₀ rest₀ grown₀ sets rest grown = rest
+
+returns : tie.Need-returns Inv-loop μ-loop
+returns c = feed-none _ _ (c .if1 .taken)
 
 loop-holds : tie.Need-loop-holds Inv-loop μ-loop
 loop-holds c = feed-begins _ _ _
@@ -26,7 +29,7 @@ cast-add-to c = record { fits = omega (arith, c .before .least .ensures .below) 
 
 add-to-requires : tie.Need-add-to-requires Inv-loop μ-loop
 add-to-requires c κs =
-    let start = c .before .before .before .before .before in
+    let start = c .before .before .before .before .before .before in
     omega (arith, c .before .least .ensures .below, c .before .before .before .loop .inv .same, start .pre)
 
 note-requires : tie.Need-note-requires Inv-loop μ-loop
@@ -54,8 +57,8 @@ loop-again c =
 same-length : tie.Need-same-length Inv-loop μ-loop
 same-length c = c .before .loop .inv .same
 
-returns : tie.Need-returns Inv-loop μ-loop
-returns c = feed-ends (c .before .loop .inv) (omega (arith, c .loop-test .left))
+returns-2 : tie.Need-returns-2 Inv-loop μ-loop
+returns-2 c = feed-ends (c .before .loop .inv) (omega (arith, c .loop-test .left))
 
 pub feed-spec : {M : Type 1} → statement M
 feed-spec =
@@ -63,6 +66,7 @@ feed-spec =
     (tie.spec
     Inv-loop
     μ-loop
+    returns
     loop-holds
     least-requires
     cast-add-to
@@ -72,4 +76,4 @@ feed-spec =
     loop-less
     loop-again
     same-length
-    returns)
+    returns-2)
