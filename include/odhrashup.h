@@ -8,9 +8,9 @@
  * Calls share no state and keep nothing: they may run at the same time in several threads, as long as no call writes what another
  * reads or writes. They allocate nothing and open nothing.
  *
- * Stack: less than 1 KiB for odhrashup_read and odhrashup_write, 4 KiB for odhrashup_check and odhrashup_costs, 20 KiB for
- * odhrashup_parse, odhrashup_marks and odhrashup_pace, whatever the input. (Measured, not proved: 104, 184, 3,016, 3,048, 16,616, 18,216
- * and 16,680 bytes.)
+ * Stack: less than 1 KiB for odhrashup_read and odhrashup_write, 8 KiB for odhrashup_check and odhrashup_costs, 24 KiB for
+ * odhrashup_parse, odhrashup_marks and odhrashup_pace, whatever the input. (Measured, not proved: 72, 152, 6,248, 6,312, 19,880, 21,496
+ * and 19,944 bytes.)
  *
  * Each function answers a status: 0, ODHRASHUP_IDLE, or the number of a refusal, 1 to 15 or 23:
  *    1 file empty, not a multiple of 512, or over 5,632 bytes      7 a nonterminal derives no terminal string
