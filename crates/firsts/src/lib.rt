@@ -13,15 +13,16 @@ ghost use Rattle.firsts.specs.Asked.{Asked, RuleFirstsOf};
 ghost use Rattle.firsts.specs.Begun.{AllLed, Begun, Led};
 
 // FIRST of each nonterminal: the tokens that stand first in its right sides, and FIRST of each nonterminal that can stand first there. START
-// has the lowest number and what it is made of mostly higher ones, so sets are passed on from the highest down.
-pub fn firsts(words: &[u16], places: &[u16], null: u64, out: &mut [u64])
+// has the lowest number and what it is made of mostly higher ones, so sets are passed on from the highest down. Which set feeds which is noted
+// in a table that is lent: in it, and in the other, nothing stands yet.
+pub fn firsts(words: &[u16], places: &[u16], null: u64, feeds: &mut [u64], out: &mut [u64])
     requires { ⌜ Asked (now words) (now places) null (now out) ⌝ }
+    requires { ⌜ Blank 64 (now feeds) ⌝ }
     requires { ⌜ Blank 64 (now out) ⌝ }
     ensures { λ _. ⌜ FirstsOf (now (words .entry)) (now (out .exit)) ⌝ }
 {
-    let mut feeds = [0u64; 64];
-    let list = begin(words, places, null, &mut feeds, out);
-    growth::close(&feeds, list, true, out);
+    let list = begin(words, places, null, feeds, out);
+    growth::close(feeds, list, true, out);
 }
 
 // FIRST of each right side, from FIRST of each nonterminal.

@@ -4,7 +4,7 @@ ghost use mathlib.Core.Path.{_≡_};
 ghost use Prim.Native.Nat.{_<_};
 ghost use lib.ListN.{length};
 ghost use Rattle.growth.specs.Added.{Added};
-ghost use Rattle.growth.specs.Along.{Reached};
+ghost use Rattle.growth.specs.Along.{Reached, Spent};
 ghost use Rattle.growth.specs.Closing.{Closing, EndOf, Fed, Listed, Noted};
 
 // Adds the members of the mask to set k, and answers whether one of them was not there. The set is written in any case: most callers do
@@ -74,10 +74,12 @@ pub fn note(s: u64, i: u16, yes: bool) -> u64
     if yes { sets::with(s, i) } else { s }
 }
 
-// The numbers that 0 comes to, where from k there is a step to each of `feeds[k]`. Those that are reached and not done are the list.
-pub fn reach(feeds: &[u64]) -> u64
+// The numbers that 0 comes to, where from k there is a step to each of `feeds[k]`. Those that are reached and not done are the list. What was
+// stepped on from is emptied: where all are reached, the table holds nothing then and serves the next.
+pub fn reach(feeds: &mut [u64]) -> u64
     requires { ⌜ length (now feeds) ≡ 64 ⌝ }
     ensures { λ r. ⌜ Reached (now (feeds .entry)) r ⌝ }
+    ensures { λ r. ⌜ Spent (now (feeds .entry)) r (now (feeds .exit)) ⌝ }
 {
     let mut reached = sets::with(0, 0);
     let mut done: u64 = 0;
@@ -88,6 +90,7 @@ pub fn reach(feeds: &[u64]) -> u64
         }
         let k = sets::least(rest);
         reached = sets::union(reached, feeds[k as usize]);
+        feeds[k as usize] = 0;
         done = sets::with(done, k);
     }
 }

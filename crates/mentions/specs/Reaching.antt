@@ -1,8 +1,9 @@
 -- The nonterminals that are reachable from START are those that it comes to by what rules mention.
 --     reach-exact   sound and closed, therefore exact
-use Prim.Native.Nat.{ℕ, _+_, _-_, _<_}
+--     spent-blank   what it stepped along is empty then
+use Prim.Native.Nat.{ℕ, _+_, _-_, _^_, _≤_, _<_}
 use mathlib.Core.Path.{_≡_, refl, sym, ap, _∙_, subst}
-use mathlib.Core.Bool.{true}
+use mathlib.Core.Bool.{Bool, true, false, true≢false}
 use mathlib.Core.List.{List, [], _∷_, _++_, List·Memᴰ, List·Memᴰ·head, List·Memᴰ·tail}
 use mathlib.Core.Logic.{_⊎_, _↔_, inl, inr, ⊎-elim}
 use native.Mathlib.Omega.{arith}
@@ -16,8 +17,11 @@ use Rattle.grammar.specs.theory.Closed.{ClosedDown, closed-down, all-rest}
 use Rattle.grammar.specs.theory.Members.{all-by}
 use Rattle.grammar.specs.theory.Rewriting.{opened}
 use Rattle.grammar.specs.theory.RightSides.{rule-at, rule-left}
+use Rattle.base.specs.Blank.{Blank}
 use Rattle.sets.specs.Bits.{member}
-use Rattle.growth.specs.Along.{Along, Reached}
+use Rattle.sets.specs.Laws.{empty-none, same-members}
+use Rattle.shape.specs.Inside.{left-ranged}
+use Rattle.growth.specs.Along.{Along, Reached, Spent}
 use Rattle.mentions.specs.Mentions.{Mentions, Uses, UsesOf}
 
 -- ---- Sound
@@ -92,3 +96,23 @@ module _ {ws uses : List ℕ} (u : UsesOf ws uses) where
 
   pub reach-exact : {set : ℕ} → Reached uses set → (k : ℕ) → (member set k ≡ true) ↔ Reachable (RuleOf ws) (START ∷ []) (64 + k)
   reach-exact r k = (λ m. sound (r .exact k .0 m), λ d. r .exact k .1 (complete k d))
+
+  -- Where all are reached, the table that was stepped along holds nothing in the end: of others there is no rule.
+  pub spent-blank : {new : List ℕ} (set : ℕ) → Shaped ws → ((k : ℕ) → k < nonterminalCount ws → member set k ≡ true) → Spent uses set new
+      → ((k : ℕ) → getD uses k 0 < 2 ^ 64)
+      → Blank 64 new
+  spent-blank {new} set shaped all s fits = record { size = s .same ∙ u .size; zeros = λ k. at k (member set k) refl }
+    where
+      no-rule : (k j : ℕ) → nonterminalCount ws ≤ k → member (getD uses k 0) j ≡ true → ⊥
+      no-rule k j above m =
+          let way = u .exact k j .0 m in omega (arith, way .left, left-ranged ws shaped (way .rule) (way .before) .1)
+
+      at : (k : ℕ) (t : Bool) → member set k ≡ t → getD new k 0 ≡ 0
+      at k true e = s .gone k e
+      at k false e =
+          s .kept k (λ m. true≢false (sym m ∙ e))
+          ∙ same-members 64 (getD uses k 0) 0 (fits k) (omega arith)
+          (λ j m.
+          absurd
+          (⊎-elim (λ low. true≢false (sym (all k low) ∙ e)) (λ above. no-rule k j above m) (below-or k (nonterminalCount ws))))
+          (λ j m. absurd (empty-none j m))

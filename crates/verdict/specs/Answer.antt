@@ -1,7 +1,7 @@
 -- What the answers of the grammar check mean, and what stands in the tables behind them.
 use Prim.Native.Nat.{ℕ, _+_, _≤_, _<_}
 use mathlib.Core.Path.{_≡_, refl, sym, ap, _∙_, subst}
-use mathlib.Core.Bool.{Bool}
+use mathlib.Core.Bool.{Bool, true}
 use mathlib.Core.List.{List, [], _∷_}
 use mathlib.Core.Option.{Option, none, some}
 use native.Mathlib.Omega.{arith}
@@ -31,10 +31,12 @@ abbrev pub checkOf : Checked → Option Refusal
 checkOf Accepted = none
 checkOf (Refused r) = some r
 
--- The table of which rules mention a nonterminal is filled, and r tells whether every nonterminal is reachable.
-pub record Reaching (ws mentions : List ℕ) (r : Bool) : Type 0 where
+-- The table of which rules mention a nonterminal is filled, and r tells whether every nonterminal is reachable; then the other table holds
+-- nothing.
+pub record Reaching (ws mentions uses : List ℕ) (r : Bool) : Type 0 where
   pub gathered : MentionsOf ws mentions
   pub tells : Tells (EachNonterminal ws (Reachable (RuleOf ws) (START ∷ []))) r
+  pub blank : r ≡ true → Blank 64 uses
 
 -- The table of FIRST is filled, and r tells whether no two rules of one nonterminal share a predict token.
 pub record Predicted (ws l : List ℕ) (r : Bool) : Type 0 where

@@ -112,7 +112,8 @@ fn judge_by(
     requires { ⌜ Blank 65 (now sets) ⌝ }
     ensures { λ r. ⌜ Judged (now (words .entry)) (now (places .entry)) (now (costs .exit)) (now (sets .exit)) r ⌝ }
 {
-    if reachable(words, places, mentions) {} else {
+    let mut feeds = [0u64; 64];
+    if reachable(words, places, mentions, &mut feeds) {} else {
         return Checked::Refused(Refusal::Unreachable);
     }
     costs::costs(words, places, mentions, costs);
@@ -120,7 +121,7 @@ fn judge_by(
         return Checked::Refused(unaffordable(words, costs));
     }
     let null = costs::empties(words, costs);
-    if predictable(words, places, null, &mut sets[0..64]) {} else {
+    if predictable(words, places, null, &mut feeds, &mut sets[0..64]) {} else {
         return Checked::Refused(Refusal::SharedPredict);
     }
     sets[64] = null;
@@ -129,16 +130,17 @@ fn judge_by(
 
 // ---- Refusals 6, 7 and 8
 
-// Every nonterminal is reachable from START. Fills the table of which rules mention a nonterminal, which the costs go by too.
-fn reachable(words: &[u16], places: &[u16], mentions: &mut [u64]) -> bool
+// Every nonterminal is reachable from START. Fills the table of which rules mention a nonterminal, which the costs go by too. `uses` holds
+// nothing at first, and where all are reached nothing in the end.
+fn reachable(words: &[u16], places: &[u16], mentions: &mut [u64], uses: &mut [u64]) -> bool
     requires { ⌜ Ready (now words) (now places) ⌝ }
     requires { ⌜ Clear (now mentions) ⌝ }
     requires { ⌜ Wide (now words) (now mentions) ⌝ }
-    ensures { λ r. ⌜ Reaching (now (words .entry)) (now (mentions .exit)) r ⌝ }
+    requires { ⌜ Blank 64 (now uses) ⌝ }
+    ensures { λ r. ⌜ Reaching (now (words .entry)) (now (mentions .exit)) (now (uses .exit)) r ⌝ }
 {
-    let mut uses = [0u64; 64];
-    mentions::gather(words, places, mentions, &mut uses);
-    covers(words, growth::reach(&uses))
+    mentions::gather(words, places, mentions, uses);
+    covers(words, growth::reach(uses))
 }
 
 // Every nonterminal is in the set.
@@ -180,14 +182,21 @@ fn within(words: &[u16], costs: &[u32], limit: u32) -> bool
 
 // ---- Refusal 9
 
-// No two rules of one nonterminal share a predict token. Fills the table of FIRST.
-fn predictable(words: &[u16], places: &[u16], null: u64, firsts: &mut [u64]) -> bool
+// No two rules of one nonterminal share a predict token. Fills the table of FIRST, and notes in the other what feeds what.
+fn predictable(
+    words: &[u16],
+    places: &[u16],
+    null: u64,
+    feeds: &mut [u64],
+    firsts: &mut [u64],
+) -> bool
     requires { ⌜ Asked (now words) (now places) null (now firsts) ⌝ }
+    requires { ⌜ Blank 64 (now feeds) ⌝ }
     requires { ⌜ Blank 64 (now firsts) ⌝ }
     requires { ⌜ Reached (now words) ⌝ }
     ensures { λ r. ⌜ Predicted (now (words .entry)) (now (firsts .exit)) r ⌝ }
 {
-    firsts::firsts(words, places, null, firsts);
+    firsts::firsts(words, places, null, feeds, firsts);
     unshared(words, places, null, firsts)
 }
 
