@@ -9,8 +9,8 @@
  * reads or writes. They allocate nothing and open nothing.
  *
  * Stack: less than 1 KiB for odhrashup_read and odhrashup_write, 8 KiB for odhrashup_check and odhrashup_costs, 24 KiB for
- * odhrashup_parse, odhrashup_marks and odhrashup_pace, whatever the input. (Measured, not proved: 72, 152, 6,248, 6,312, 19,880, 21,496
- * and 19,944 bytes.)
+ * odhrashup_parse, odhrashup_marks and odhrashup_pace, whatever the input. (Measured, not proved: 72, 152, 6,760, 6,824, 20,392, 22,008
+ * and 20,456 bytes.)
  *
  * Each function answers a status: 0, ODHRASHUP_IDLE, or the number of a refusal, 1 to 15 or 23:
  *    1 file empty, not a multiple of 512, or over 5,632 bytes      7 a nonterminal derives no terminal string
