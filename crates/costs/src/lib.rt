@@ -25,8 +25,8 @@ const OVER: u32 = 60001;
 // What stands for the cost of a nonterminal that derives no terminal string: more than eight costs together.
 const NONE: u32 = 1000000;
 
-// Fills the table, which holds nothing. A cost of at most 60,000 is exact, and so is its rule; one of 60,001 says that the nonterminal derives terminal
-// strings, and none of cost 60,000 or less: refusal 8; one of 1,000,000 that it derives none: refusal 7.
+// Fills the table, which holds nothing. A cost of at most 60,000 is exact, and so is its rule; one of 60,001 says that the nonterminal
+// derives terminal strings, and none of cost 60,000 or less: refusal 8; one of 1,000,000 that it derives none: refusal 7.
 pub fn costs(words: &[u16], places: &[u16], mentions: &[u64], table: &mut [u32])
     requires { ⌜ Ready (now words) (now places) ⌝ }
     requires { ⌜ MentionsOf (now words) (now mentions) ⌝ }

@@ -78,7 +78,7 @@ PricedAs ws prices r = Answered ws (Priced ws prices) r
 abbrev pub Tabled : List ℕ → List ℕ → List ℕ → List ℕ → List ℕ → Checked → Type 0
 Tabled ws sets prices sides rows r = Answered ws (Tables ws sets prices sides rows) r
 
--- The sizes of the lent tables. In two of them nothing may stand yet, so that nothing is cleared twice.
+-- The sizes of the lent tables. In the first two nothing stands yet: who lends them has just made them, and they are not cleared again.
 pub record Sizes (sets prices sides rows : List ℕ) : Type 0 where
   pub sets-blank : Blank 65 sets
   pub prices-blank : Blank 256 prices
