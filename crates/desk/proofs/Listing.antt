@@ -15,9 +15,9 @@ use Rattle.base.specs.Choices.{below-or}
 use Rattle.base.specs.Written.{written, written-none, written-more}
 use Rattle.grammar.specs.Words.{nonterminalCount, insertCost}
 use Rattle.grammar.specs.Cost.{CheapestRule}
-use Rattle.grammar.specs.Grammar.{RuleOf, Verdict}
+use Rattle.grammar.specs.Grammar.{RuleOf, Verdict, grammarOf}
 use Rattle.grammar.specs.Buffers.{filled, cleared}
-use Rattle.grammar.specs.Desk.{CostsAndRules, deskConditions, DeskAnswer}
+use Rattle.grammar.specs.Desk.{CostsAndRules, deskConditions, DeskAnswer, DeskBy}
 use Rattle.grammar.specs.Refusals.{Lowest, Outcome, given, refused}
 use Rattle.grammar.specs.declared.Refusal.{Refusal}
 use Rattle.grammar.specs.declared.Refusal.the-variants.{ShortDesk}
@@ -71,7 +71,7 @@ module _ {ws costs rules : List ℕ} (costRoom ruleRoom : ℕ) (costs-clear : co
       → DeskAnswer ws costRoom ruleRoom (refused r) costs rules
   refuses {r} lowest =
       subst₂ (λ (x u : List ℕ). DeskAnswer ws costRoom ruleRoom (refused r) x u) (sym costs-clear) (sym rules-clear)
-      (DeskAnswer.refuse lowest)
+      (DeskBy.refuse lowest)
 
   -- The grammar check refuses,
   pub unchecked : {r : Refusal} → Verdict ws (some r) → DeskAnswer ws costRoom ruleRoom (refused r) costs rules
@@ -101,7 +101,7 @@ as-lent {ws} {x = x} {u = u} {o = o} e f p = subst₂ (λ (n m : ℕ). DeskAnswe
 
 -- The table has the cost of nonterminal k at 64 + k and its rule at 128 + k.
 table-lists : {ws table : List ℕ} (count : ℕ) → Priced ws table → count ≡ nonterminalCount ws
-    → CostsAndRules ws (take count (drop 64 table)) (take count (drop 128 table))
+    → CostsAndRules (nonterminalCount ws) (grammarOf ws) (take count (drop 64 table)) (take count (drop 128 table))
 table-lists {ws} {table} count p e =
     record {
       costs-count = length-take-le count (drop 64 table) (omega (arith, length-drop 64 table, p .costed .size, small)) ∙ e;
@@ -127,7 +127,7 @@ lists {ws} {table} {costs} {rules} {x} {u} count can e costs-fit rules-fit f g =
     subst (λ (n : ℕ). DeskAnswer ws (length costs) (length rules) (given n) x u) (sym e)
     (subst₂ (λ (y v : List ℕ). DeskAnswer ws (length costs) (length rules) (given (nonterminalCount ws)) y v)
     (sym (f ∙ stands costs cs (can .costs-clear))) (sym (g ∙ stands rules ps (can .rules-clear)))
-    (DeskAnswer.give (held-front (can .accepts) (passes (omega arith, omega arith) all-met)) (table-lists count (can .priced) e)))
+    (DeskBy.give (held-front (can .accepts) (passes (omega arith, omega arith) all-met)) (table-lists count (can .priced) e)))
   where
     stands : (buffer xs : List ℕ) → buffer ≡ cleared (length buffer) → written buffer 0 xs ≡ filled (length buffer) xs
     stands buffer xs clear = ap (λ (b : List ℕ). written b 0 xs) clear ∙ front-filled (length buffer) xs

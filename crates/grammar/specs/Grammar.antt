@@ -15,6 +15,10 @@ use Rattle.grammar.specs.Words.{
   rightSide,
   insertCost,
   reliability,
+  opening,
+  closing,
+  restartMark,
+  tickUnit,
 }
 use Rattle.grammar.specs.Derivation.{Rules, Reachable, Productive, NoneShared}
 use Rattle.grammar.specs.Cost.{Cheapest}
@@ -61,26 +65,63 @@ grammarOf ws = record {
 }
 
 -- The cost of A is at most 60,000.
-pub record Affordable (ws : List ℕ) (A : ℕ) : Type 0 where
+pub record Affordable (R : Rules) (price : ℕ → ℕ) (A : ℕ) : Type 0 where
   pub cost : ℕ
-  pub cheapest : Cheapest (RuleOf ws) (insertCost ws) A cost
+  pub cheapest : Cheapest R price A cost
   pub limit : cost ≤ 60000
 
--- Each of the N nonterminals has the property.
+-- Each of N nonterminals has the property.
+abbrev pub Each : ℕ → (ℕ → Type 0) → Type 0
+Each N P = (k : ℕ) → k < N → P (64 + k)
+
+-- Each nonterminal of the words has it.
 abbrev pub EachNonterminal : List ℕ → (ℕ → Type 0) → Type 0
-EachNonterminal ws P = (k : ℕ) → k < nonterminalCount ws → P (64 + k)
+EachNonterminal ws P = Each (nonterminalCount ws) P
 
 -- The conditions: "the words have the shape above; every nonterminal is reachable from START; every nonterminal derives some
 -- terminal string; none costs more than 60,000; no two rules of one nonterminal share a predict token".
-abbrev pub grammarConditions : List ℕ → List Condition
-grammarConditions ws =
-    (BadShape unless Shaped ws)
-    ∷ (Unreachable unless EachNonterminal ws (Reachable (RuleOf ws) (START ∷ [])))
-    ∷ (NoString unless EachNonterminal ws (Productive (RuleOf ws)))
-    ∷ (TooCostly unless EachNonterminal ws (Affordable ws))
-    ∷ (SharedPredict unless NoneShared (RuleOf ws) startOverEnd)
+abbrev pub conditionsOf : Type 0 → ℕ → Grammar → List Condition
+conditionsOf Shape N G =
+    (BadShape unless Shape)
+    ∷ (Unreachable unless Each N (Reachable (G .rules) (START ∷ [])))
+    ∷ (NoString unless Each N (Productive (G .rules)))
+    ∷ (TooCostly unless Each N (Affordable (G .rules) (G .price)))
+    ∷ (SharedPredict unless NoneShared (G .rules) (G .begin))
     ∷ []
 
--- The verdict on the words: none where they are accepted, else the lowest refusal of 5 to 9 that applies.
+-- Those of the words.
+abbrev pub grammarConditions : List ℕ → List Condition
+grammarConditions ws = conditionsOf (Shaped ws) (nonterminalCount ws) (grammarOf ws)
+
+-- What words mean: all that an answer to them depends on. Request (vi) of 02 speaks of it, "old words mean what they meant".
+pub record Meaning : Type 1 where
+  -- refusals 5 to 9
+  pub conditions : List Condition
+  -- T and N
+  pub terminals : ℕ
+  pub nonterminals : ℕ
+  pub grammar : Grammar
+  -- the marks of a cycle, the restart mark (0 for none) and the tick unit
+  pub opening : ℕ
+  pub closing : ℕ
+  pub restart : ℕ
+  pub unit : ℕ
+
+abbrev pub meaningOf : List ℕ → Meaning
+meaningOf ws = record {
+  conditions = grammarConditions ws;
+  terminals = terminalCount ws;
+  nonterminals = nonterminalCount ws;
+  grammar = grammarOf ws;
+  opening = opening ws;
+  closing = closing ws;
+  restart = restartMark ws;
+  unit = tickUnit ws;
+}
+
+-- The verdict: none where the words are accepted, else the lowest refusal of 5 to 9 that applies.
+abbrev pub VerdictBy : Meaning → Option Refusal → Type 0
+VerdictBy M o = Lowest (M .conditions) o
+
 abbrev pub Verdict : List ℕ → Option Refusal → Type 0
-Verdict ws o = Lowest (grammarConditions ws) o
+Verdict ws o = VerdictBy (meaningOf ws) o

@@ -2,13 +2,12 @@
 use Prim.Native.Nat.{ℕ, zero, suc, _≤_, _<_}
 use mathlib.Core.List.{List, [], _∷_, _++_, map}
 use lib.ListN.{length}
-use Rattle.grammar.specs.Words.{insertCost}
 use Rattle.grammar.specs.Derivation.{Rules}
 use Rattle.grammar.specs.Cost.{Ends}
-use Rattle.grammar.specs.Grammar.{RuleOf}
+use Rattle.grammar.specs.Grammar.{Grammar, Meaning, grammarOf, meaningOf}
 use Rattle.grammar.specs.Buffers.{filled, cleared}
 use Rattle.grammar.specs.Moves.{Move}
-use Rattle.grammar.specs.Run.{Parses, countsOf}
+use Rattle.grammar.specs.Run.{ParsesBy, countsOf}
 use Rattle.grammar.specs.Refusals.{Outcome, given, refused}
 use Rattle.grammar.specs.declared.Refusal.{Refusal}
 use Rattle.grammar.specs.declared.Refusal.the-variants.{ShortTokens}
@@ -45,23 +44,29 @@ pub data Marked (R : Rules) (price : ℕ → ℕ) : List Move → List Mark → 
   replaced : {d p X : ℕ} {w : List ℕ} {ms : List Move} {xs : List Mark} → Ends R price d (X ∷ []) w → Marked R price ms xs
       → Marked R price (Move.insert p X ∷ ms) (addedMarks w ++ xs)
 
--- The marks of the words' grammar.
+-- The marks of a grammar, and of the words'.
+abbrev pub MarkedBy : Grammar → List Move → List Mark → Type 0
+MarkedBy G = Marked (G .rules) (G .price)
+
 abbrev pub MarksOf : List ℕ → List Move → List Mark → Type 0
-MarksOf ws = Marked (RuleOf ws) (insertCost ws)
+MarksOf ws = MarkedBy (grammarOf ws)
 
 -- The answer, counts of the parse and number of marks or a refusal, and the three buffers afterwards, where `wordOf` is what stands for a
 -- mark in the last one. "It runs the parse itself, so 01's refusals come first", with what else is asked under 10; "15 when the token buffer
 -- is too short for the full result, leaving every output buffer all zeros".
-pub data Marks (wordOf : Mark → ℕ) (Asked : Type 0) (ws log : List ℕ) (editRoom ruleRoom tokenRoom : ℕ)
+pub data MarksBy (wordOf : Mark → ℕ) (Asked : Type 0) (M : Meaning) (log : List ℕ) (editRoom ruleRoom tokenRoom : ℕ)
     : Outcome (Counts × ℕ) → List ℕ → List ℕ → List ℕ → Type 0 where
-  unparsed : {r : Refusal} {es rs : List ℕ} → Parses Asked ws log editRoom ruleRoom (refused r) es rs
-      → Marks wordOf Asked ws log editRoom ruleRoom tokenRoom (refused r) es rs (cleared tokenRoom)
-  short : {ms : List Move} {xs : List Mark} {es rs : List ℕ} → Parses Asked ws log editRoom ruleRoom (given ms) es rs → MarksOf ws ms xs
+  unparsed : {r : Refusal} {es rs : List ℕ} → ParsesBy Asked M log editRoom ruleRoom (refused r) es rs
+      → MarksBy wordOf Asked M log editRoom ruleRoom tokenRoom (refused r) es rs (cleared tokenRoom)
+  short : {ms : List Move} {xs : List Mark} {es rs : List ℕ} → ParsesBy Asked M log editRoom ruleRoom (given ms) es rs → MarkedBy (M .grammar) ms xs
       → tokenRoom < length xs
-      → Marks wordOf Asked ws log editRoom ruleRoom tokenRoom (refused ShortTokens) (cleared editRoom) (cleared ruleRoom) (cleared tokenRoom)
-  whole : {ms : List Move} {xs : List Mark} {es rs : List ℕ} → Parses Asked ws log editRoom ruleRoom (given ms) es rs → MarksOf ws ms xs
+      → MarksBy wordOf Asked M log editRoom ruleRoom tokenRoom (refused ShortTokens) (cleared editRoom) (cleared ruleRoom) (cleared tokenRoom)
+  whole : {ms : List Move} {xs : List Mark} {es rs : List ℕ} → ParsesBy Asked M log editRoom ruleRoom (given ms) es rs → MarkedBy (M .grammar) ms xs
       → length xs ≤ tokenRoom
-      → Marks wordOf Asked ws log editRoom ruleRoom tokenRoom (given (countsOf ms, length xs)) es rs (filled tokenRoom (map wordOf xs))
+      → MarksBy wordOf Asked M log editRoom ruleRoom tokenRoom (given (countsOf ms, length xs)) es rs (filled tokenRoom (map wordOf xs))
+
+abbrev pub Marks : (Mark → ℕ) → Type 0 → List ℕ → List ℕ → ℕ → ℕ → ℕ → Outcome (Counts × ℕ) → List ℕ → List ℕ → List ℕ → Type 0
+Marks wordOf Asked ws = MarksBy wordOf Asked (meaningOf ws)
 
 -- The repaired log in marks alone: each mark is its token, and no more is asked.
 abbrev pub MarksAnswer : List ℕ → List ℕ → ℕ → ℕ → ℕ → Outcome (Counts × ℕ) → List ℕ → List ℕ → List ℕ → Type 0

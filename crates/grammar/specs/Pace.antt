@@ -5,10 +5,10 @@ use mathlib.Core.List.{List, [], _∷_, List·Memᴰ}
 use lib.ListN.{length, getD}
 use lib.Ieee.{div, ofInt, binary64}
 use lib.IntN.{pos}
-use Rattle.grammar.specs.Words.{opening, closing, tickUnit}
+use Rattle.grammar.specs.Grammar.{Meaning, meaningOf}
 use Rattle.grammar.specs.Moves.{Move, edits}
 use Rattle.grammar.specs.Refusals.{Outcome, given, refused}
-use Rattle.grammar.specs.Run.{countsOf, Parses}
+use Rattle.grammar.specs.Run.{countsOf, ParsesBy}
 use Rattle.grammar.specs.declared.Refusal.{Refusal}
 use Rattle.grammar.specs.declared.Pace.{Pace}
 use Rattle.grammar.specs.declared.Pace.the-variants.{Idle, Mean}
@@ -40,10 +40,12 @@ pub record Cycle (o c : ℕ) (ms : List Move) (s : Span) : Type 0 where
   pub no-opening : (p : ℕ) → s .opened < p → p < s .closed → Kept ms p o → ⊥
   pub no-closing : (p : ℕ) → s .opened < p → p < s .closed → Kept ms p c → ⊥
 
--- "It is clean when no edit has place p with a < p <= b."
-pub record Clean (o c : ℕ) (ms : List Move) (s : Span) : Type 0 where
+-- "It is clean when no edit has place p with a < p <= b." And by request (vi) of 02 "a kept restart mark strictly between a and b makes a
+-- cycle unclean"; a restart mark of 0 is none.
+pub record Clean (o c m : ℕ) (ms : List Move) (s : Span) : Type 0 where
   pub cycle : Cycle o c ms s
   pub unedited : (p : ℕ) → s .opened < p → p ≤ s .closed → Edited ms p → ⊥
+  pub no-restart : 1 ≤ m → (p : ℕ) → s .opened < p → p < s .closed → Kept ms p m → ⊥
 
 -- Each span closes behind the one before it.
 pub data Ascending : List Span → Type 0 where
@@ -52,10 +54,10 @@ pub data Ascending : List Span → Type 0 where
   also : {s u : Span} {ss : List Span} → s .closed < u .closed → Ascending (u ∷ ss) → Ascending (s ∷ u ∷ ss)
 
 -- The clean cycles of the moves, each once, in order.
-pub record CleanCycles (o c : ℕ) (ms : List Move) (cs : List Span) : Type 0 where
+pub record CleanCycles (o c m : ℕ) (ms : List Move) (cs : List Span) : Type 0 where
   pub ascending : Ascending cs
-  pub every : (s : Span) → Clean o c ms s → List·Memᴰ s cs
-  pub only : (s : Span) → List·Memᴰ s cs → Clean o c ms s
+  pub every : (s : Span) → Clean o c m ms s → List·Memᴰ s cs
+  pub only : (s : Span) → List·Memᴰ s cs → Clean o c m ms s
 
 -- ---- Times
 
@@ -90,14 +92,21 @@ reportOf unit ticks cs =
     record { count = length cs; sum = totalMs unit ticks cs; pace = paceOf (length cs) (totalMs unit ticks cs) }
 
 -- The report of the moves with the counts of their parse, or the refusal.
-pub data Reports (ws ticks : List ℕ) : Outcome (List Move) → Outcome (Report × Counts) → Type 0 where
-  paced : {ms : List Move} {cs : List Span} → CleanCycles (opening ws) (closing ws) ms cs
-      → Reports ws ticks (given ms) (given (reportOf (tickUnit ws) ticks cs, countsOf ms))
-  unpaced : {r : Refusal} → Reports ws ticks (refused r) (refused r)
+pub data ReportsBy (M : Meaning) (ticks : List ℕ) : Outcome (List Move) → Outcome (Report × Counts) → Type 0 where
+  paced : {ms : List Move} {cs : List Span} → CleanCycles (M .opening) (M .closing) (M .restart) ms cs
+      → ReportsBy M ticks (given ms) (given (reportOf (M .unit) ticks cs, countsOf ms))
+  unpaced : {r : Refusal} → ReportsBy M ticks (refused r) (refused r)
+
+abbrev pub Reports : List ℕ → List ℕ → Outcome (List Move) → Outcome (Report × Counts) → Type 0
+Reports ws = ReportsBy (meaningOf ws)
 
 -- The report's answer and the two buffers: it "runs the parse itself" and leaves in them what the parse leaves. It asks besides that
 -- "ticks and tokens" do not "differ in number" under refusal 10.
-pub record Reported (ws log ticks : List ℕ) (editRoom ruleRoom : ℕ) (answer : Outcome (Report × Counts)) (es rs : List ℕ) : Type 0 where
+pub record ReportedBy (M : Meaning) (log ticks : List ℕ) (editRoom ruleRoom : ℕ) (answer : Outcome (Report × Counts)) (es rs : List ℕ)
+    : Type 0 where
   pub outcome : Outcome (List Move)
-  pub parses : Parses (length ticks ≡ length log) ws log editRoom ruleRoom outcome es rs
-  pub reports : Reports ws ticks outcome answer
+  pub parses : ParsesBy (length ticks ≡ length log) M log editRoom ruleRoom outcome es rs
+  pub reports : ReportsBy M ticks outcome answer
+
+abbrev pub Reported : List ℕ → List ℕ → List ℕ → ℕ → ℕ → Outcome (Report × Counts) → List ℕ → List ℕ → Type 0
+Reported ws = ReportedBy (meaningOf ws)

@@ -10,7 +10,7 @@ use lib.Dec.{leb, ltb}
 use Rattle.grammar.specs.Words.{END, terminalCount}
 use Rattle.grammar.specs.Derivation.{Rules, First, CanBeEmpty}
 use Rattle.grammar.specs.Cost.{ListCost}
-use Rattle.grammar.specs.Grammar.{Grammar, grammarOf, grammarConditions}
+use Rattle.grammar.specs.Grammar.{Grammar, grammarOf, Meaning, meaningOf}
 use Rattle.grammar.specs.Buffers.{filled, cleared}
 use Rattle.grammar.specs.Moves.{Move, edits, editWords, ruleNumbers}
 use Rattle.grammar.specs.Refusals.{Condition, _unless_, Lowest, Outcome, given, refused}
@@ -156,14 +156,20 @@ pub data Run (G : Grammar) (L : Limits) : State → List Move → Option Refusal
 -- ---- The parser's answer
 
 -- "A log is n tokens, 0..4,096, each 1..T-1."
-pub record LogFits (ws log : List ℕ) : Type 0 where
+pub record LogBelow (T : ℕ) (log : List ℕ) : Type 0 where
   pub count : length log ≤ 4096
   pub low : (i : ℕ) → i < length log → 1 ≤ getD log i END
-  pub high : (i : ℕ) → i < length log → getD log i END < terminalCount ws
+  pub high : (i : ℕ) → i < length log → getD log i END < T
+
+abbrev pub LogFits : List ℕ → List ℕ → Type 0
+LogFits ws log = LogBelow (terminalCount ws) log
 
 -- The conditions before a run, refusals 5 to 10: those of the grammar check, then the log, with what else its caller asks under 10.
+abbrev pub conditionsBefore : Meaning → List ℕ → Type 0 → List Condition
+conditionsBefore M log Asked = M .conditions ++ ((BadLog unless (LogBelow (M .terminals) log × Asked)) ∷ [])
+
 abbrev pub runConditions : List ℕ → List ℕ → Type 0 → List Condition
-runConditions ws log Asked = grammarConditions ws ++ ((BadLog unless (LogFits ws log × Asked)) ∷ [])
+runConditions ws log Asked = conditionsBefore (meaningOf ws) log Asked
 
 -- What a run comes to: its moves; or the lowest refusal that applies before it; or the refusal that it meets.
 pub data Settled (cs : List Condition) (Runs : List Move → Option Refusal → Type 0) : Outcome (List Move) → Type 0 where
@@ -171,11 +177,13 @@ pub data Settled (cs : List Condition) (Runs : List Move → Option Refusal → 
   before : {r : Refusal} → Lowest cs (some r) → Settled cs Runs (refused r)
   within : {ms : List Move} {r : Refusal} → Lowest cs none → Runs ms (some r) → Settled cs Runs (refused r)
 
--- The run of a log by the words' grammar, from START over END, with at most 256 symbols on the stack and the room of the
--- two lent buffers.
+-- The run of a log by the grammar, from its first stack, with at most 256 symbols on the stack and the room of the two lent buffers.
+abbrev pub RunBy : Grammar → List ℕ → ℕ → ℕ → List Move → Option Refusal → Type 0
+RunBy G log editRoom ruleRoom =
+    Run G (record { height = 256; editRoom = editRoom; ruleRoom = ruleRoom }) (started (G .begin) log)
+
 abbrev pub RunOf : List ℕ → List ℕ → ℕ → ℕ → List Move → Option Refusal → Type 0
-RunOf ws log editRoom ruleRoom =
-    Run (grammarOf ws) (record { height = 256; editRoom = editRoom; ruleRoom = ruleRoom }) (started (grammarOf ws .begin) log)
+RunOf ws = RunBy (grammarOf ws)
 
 -- The counts that the parser returns: moves, edit records and rule numbers listed.
 abbrev pub countsOf : List Move → Counts
@@ -192,16 +200,24 @@ left wordsOf room (refused r) = cleared room
 
 -- What a log comes to and leaves in the edit buffer (es) and the rule buffer (rs), for every list of words, every log and all lengths
 -- of the buffers.
-pub record Parses (Asked : Type 0) (ws log : List ℕ) (editRoom ruleRoom : ℕ) (outcome : Outcome (List Move)) (es rs : List ℕ) : Type 0 where
-  pub settled : Settled (runConditions ws log Asked) (RunOf ws log editRoom ruleRoom) outcome
+pub record ParsesBy (Asked : Type 0) (M : Meaning) (log : List ℕ) (editRoom ruleRoom : ℕ) (outcome : Outcome (List Move)) (es rs : List ℕ)
+    : Type 0 where
+  pub settled : Settled (conditionsBefore M log Asked) (RunBy (M .grammar) log editRoom ruleRoom) outcome
   pub leaves-edits : es ≡ left (λ ms. editWords (edits ms)) editRoom outcome
   pub leaves-rules : rs ≡ left ruleNumbers ruleRoom outcome
 
+abbrev pub Parses : Type 0 → List ℕ → List ℕ → ℕ → ℕ → Outcome (List Move) → List ℕ → List ℕ → Type 0
+Parses Asked ws = ParsesBy Asked (meaningOf ws)
+
 -- The answer and the two buffers of a parse that asks besides for `Asked`.
-pub record ParsedAsking (Asked : Type 0) (ws log : List ℕ) (editRoom ruleRoom : ℕ) (answer : Outcome Counts) (es rs : List ℕ) : Type 0 where
+pub record ParsedBy (Asked : Type 0) (M : Meaning) (log : List ℕ) (editRoom ruleRoom : ℕ) (answer : Outcome Counts) (es rs : List ℕ)
+    : Type 0 where
   pub outcome : Outcome (List Move)
-  pub parses : Parses Asked ws log editRoom ruleRoom outcome es rs
+  pub parses : ParsesBy Asked M log editRoom ruleRoom outcome es rs
   pub answers : answer ≡ answered outcome
+
+abbrev pub ParsedAsking : Type 0 → List ℕ → List ℕ → ℕ → ℕ → Outcome Counts → List ℕ → List ℕ → Type 0
+ParsedAsking Asked ws = ParsedBy Asked (meaningOf ws)
 
 -- The parser's answer and its two buffers: it asks no more.
 abbrev pub Parsed : List ℕ → List ℕ → ℕ → ℕ → Outcome Counts → List ℕ → List ℕ → Type 0

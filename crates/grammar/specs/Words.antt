@@ -1,19 +1,29 @@
 -- Document 01, "Symbols and grammar words": a grammar is a list of u16 words. Everything here is defined on every
 -- list of numbers; a word past the end counts as 0, and `Shaped` says that none such is needed.
-use Prim.Native.Nat.{ℕ, zero, suc, _+_, _*_, _≤_, _<_}
+use Prim.Native.Nat.{ℕ, zero, suc, _+_, _-_, _*_, _≤_, _<_}
 use mathlib.Core.Path.{_≡_}
+use mathlib.Core.Bool.{Bool, cond}
 use mathlib.Core.List.{List}
 use lib.ListN.{length, getD, take, drop}
+use lib.Dec.{ltb}
 
 -- The word at a place.
 abbrev pub word : List ℕ → ℕ → ℕ
 word ws i = getD ws i 0
 
--- ---- The header: words 0 to 5
+-- ---- The header: words 0 to 5; by request (vi) of 02 also word 6, the restart mark, where word 0 says so
+
+-- "Grammars get a seventh header word ..; such grammars have T + 256 in word 0." Which header stands there is told by word 0 alone.
+unfoldable pub isLong : List ℕ → Bool
+isLong ws = ltb 256 (word ws 0)
+
+-- How many words the header has: the terminals' words begin behind it.
+unfoldable pub headerSize : List ℕ → ℕ
+headerSize ws = cond (isLong ws) 7 6
 
 -- T, terminals, END included.
 unfoldable pub terminalCount : List ℕ → ℕ
-terminalCount ws = word ws 0
+terminalCount ws = cond (isLong ws) (word ws 0 - 256) (word ws 0)
 
 -- N, nonterminals.
 unfoldable pub nonterminalCount : List ℕ → ℕ
@@ -35,9 +45,9 @@ closing ws = word ws 4
 unfoldable pub tickUnit : List ℕ → ℕ
 tickUnit ws = word ws 5
 
--- How many words the header has: the terminals' words begin behind it.
-unfoldable pub headerSize : List ℕ → ℕ
-headerSize ws = 6
+-- "The restart mark, 1..T-1, or 0 for none." The short header has none.
+unfoldable pub restartMark : List ℕ → ℕ
+restartMark ws = cond (isLong ws) (word ws 6) 0
 
 -- ---- Then 2 words for each terminal, then P rules
 
@@ -93,6 +103,11 @@ pub data Marks (T o c : ℕ) : Type 0 where
   marked : 1 ≤ o → o < T → 1 ≤ c → c < T → Marks T o c
   unmarked : o ≡ 0 → c ≡ 0 → Marks T o c
 
+-- Request (vi): "the restart mark, 1..T-1, or 0 for none"; it "differs from the opening and closing marks unless it is 0".
+pub data Restart (T o c m : ℕ) : Type 0 where
+  restarts : 1 ≤ m → m < T → (m ≡ o → ⊥) → (m ≡ c → ⊥) → Restart T o c m
+  none : m ≡ 0 → Restart T o c m
+
 -- The words of a terminal other than END: "cost 1..1,000; reliability 0..60,000".
 pub record TerminalWords (ws : List ℕ) (t : ℕ) : Type 0 where
   pub cost-low : 1 ≤ insertCost ws t
@@ -116,6 +131,7 @@ pub record Shaped (ws : List ℕ) : Type 0 where
   pub rules-high : ruleCount ws ≤ 256
   pub marks : Marks (terminalCount ws) (opening ws) (closing ws)
   pub unit : tickUnit ws ≤ 1
+  pub restart : Restart (terminalCount ws) (opening ws) (closing ws) (restartMark ws)
   pub end-cost : insertCost ws END ≡ 0
   pub end-reliability : reliability ws END ≡ 0
   pub terminals : (t : ℕ) → 1 ≤ t → t < terminalCount ws → TerminalWords ws t

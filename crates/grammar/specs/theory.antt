@@ -60,3 +60,8 @@ pub mod Desk
 pub mod Strings
 pub mod Marking
 pub mod MarkAnswers
+pub mod Headers
+pub mod SameRules
+pub mod Meanings
+pub mod SixWords
+pub mod Behind

@@ -12,8 +12,8 @@ use lib.Seq.{take-all, take-take, getD-take, length-take-le}
 use Rattle.grammar.specs.File.{pairAt, FileRead}
 use Rattle.grammar.specs.Moves.{Move}
 use Rattle.grammar.specs.Grammar.{grammarConditions}
-use Rattle.grammar.specs.Run.{LogFits, runConditions, Settled, Parses}
-use Rattle.grammar.specs.Pace.{Reports, Reported}
+use Rattle.grammar.specs.Run.{LogFits, LogBelow, runConditions, Settled, Parses}
+use Rattle.grammar.specs.Pace.{Reports, Reported, ReportsBy}
 use Rattle.grammar.specs.Refusals.{Outcome, given, refused}
 use Rattle.grammar.specs.Listing.{
   Counted,
@@ -38,7 +38,7 @@ entries-length value at (suc n) = ap suc (entries-length value (at + 6) n)
 
 -- ---- Two logs over 4,096 tokens get the same answer
 
-pub too-long : {A : Type 0} {ws log : List ℕ} → 4096 < length log → LogFits ws log → A
+pub too-long : {A : Type 0} {T : ℕ} {log : List ℕ} → 4096 < length log → LogBelow T log → A
 too-long long fits = absurd (omega (arith, fits .count))
 
 settled-other : {Asked Asked′ : Type 0} {ws log log′ : List ℕ} {Runs Runs′ : List Move → Option Refusal → Type 0}
@@ -65,7 +65,7 @@ parsed-held p = settled-held (p .settled)
 
 reports-fits : {Asked : Type 0} {ws log ticks : List ℕ} {Runs : List Move → Option Refusal → Type 0} {o : Outcome (List Move)}
     {a : Report × Counts} → Reports ws ticks o (given a) → Settled (runConditions ws log Asked) Runs o → LogFits ws log
-reports-fits (Reports.paced c) (Settled.whole l r) = log-held l .0
+reports-fits (ReportsBy.paced c) (Settled.whole l r) = log-held l .0
 
 -- A log that is reported fits.
 pub reported-fits : {ws log ticks x y : List ℕ} {editRoom ruleRoom : ℕ} {a : Report × Counts}
@@ -75,8 +75,8 @@ reported-fits p = reports-fits (p .reports) (p .parses .settled)
 reports-other : {Asked : Type 0} {ws log ticks ticks′ : List ℕ} {Runs : List Move → Option Refusal → Type 0}
     {o : Outcome (List Move)} {a : Outcome (Report × Counts)} → 4096 < length log → Settled (runConditions ws log Asked) Runs o
     → Reports ws ticks o a → Reports ws ticks′ o a
-reports-other {ticks = ticks} long s (Reports.paced c) = too-long long (reports-fits {ticks = ticks} (Reports.paced c) s)
-reports-other long s Reports.unpaced = Reports.unpaced
+reports-other {ticks = ticks} long s (ReportsBy.paced c) = too-long long (reports-fits {ticks = ticks} (ReportsBy.paced c) s)
+reports-other long s ReportsBy.unpaced = ReportsBy.unpaced
 
 pub reported-other : {ws log ticks log′ ticks′ x y : List ℕ} {editRoom ruleRoom : ℕ} {a : Outcome (Report × Counts)}
     → 4096 < length log → 4096 < length log′ → Reported ws log ticks editRoom ruleRoom a x y

@@ -11,7 +11,7 @@ use Rattle.grammar.specs.Buffers.{filled}
 use Rattle.grammar.specs.File.{FileRead, fileWords}
 use Rattle.grammar.specs.Moves.{Move, Edit, edits, editWords}
 use Rattle.grammar.specs.Run.{countsOf, left}
-use Rattle.grammar.specs.Pace.{Reports, Reported}
+use Rattle.grammar.specs.Pace.{Reports, Reported, ReportsBy}
 use Rattle.grammar.specs.Refusals.{Outcome, given, refused, numberOf}
 use Rattle.grammar.specs.theory.Folds.{edit-words-length}
 use Rattle.grammar.specs.theory.Fills.{fills-content}
@@ -54,7 +54,7 @@ record MovesOf (o : Outcome (List Move)) (counts : Counts) (room : ℕ) (buffer 
 reports-moves : {ws ticks x : List ℕ} {o : Outcome (List Move)} {report : Report} {counts : Counts} {room : ℕ}
     → Reports ws ticks o (given (report, counts)) → x ≡ left (λ ms. editWords (edits ms)) room o → MovesOf o counts room x
 unfolding left
-reports-moves (Reports.paced {ms = ms} c) e = record { moves = ms; ends = refl; counted = refl; holds = e }
+reports-moves (ReportsBy.paced {ms = ms} c) e = record { moves = ms; ends = refl; counted = refl; holds = e }
 
 moves-of : {ws log ticks x u : List ℕ} {editRoom ruleRoom : ℕ} {report : Report} {counts : Counts}
     → (q : Reported ws log ticks editRoom ruleRoom (given (report, counts)) x u) → MovesOf (q .outcome) counts editRoom x

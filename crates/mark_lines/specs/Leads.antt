@@ -9,7 +9,7 @@ use lib.Dec.{eqb}
 use lib.ListN.{length, take, getD, length-append, length-map}
 use Rattle.grammar.specs.Buffers.{filled}
 use Rattle.grammar.specs.Moves.{Move}
-use Rattle.grammar.specs.Marks.{Mark, Marks, MarksOf}
+use Rattle.grammar.specs.Marks.{Mark, Marks, MarksOf, MarksBy}
 use Rattle.grammar.specs.MarkLines.{MarksPrinted, markListing}
 use Rattle.grammar.specs.Run.{Parses}
 use Rattle.grammar.specs.Refusals.{Outcome, given, refused, numberOf}
@@ -40,12 +40,12 @@ front-marks wordOf room xs =
 pub marks-part : {wordOf : Mark → ℕ} {Asked : Type 0} {ws log es rs ts : List ℕ} {editRoom ruleRoom tokenRoom : ℕ} {counts : Counts}
     {n : ℕ} → Marks wordOf Asked ws log editRoom ruleRoom tokenRoom (given (counts, n)) es rs ts → n ≤ length ts
 unfolding filled
-marks-part {wordOf} (Marks.whole {xs = xs} p m l) = simp length-append (omega (arith, length-map xs wordOf))
+marks-part {wordOf} (MarksBy.whole {xs = xs} p m l) = simp length-append (omega (arith, length-map xs wordOf))
 
 -- They are no more than the buffer has room for.
 pub marks-few : {wordOf : Mark → ℕ} {Asked : Type 0} {ws log es rs ts : List ℕ} {editRoom ruleRoom tokenRoom : ℕ} {counts : Counts}
     {n : ℕ} → Marks wordOf Asked ws log editRoom ruleRoom tokenRoom (given (counts, n)) es rs ts → n ≤ tokenRoom
-marks-few (Marks.whole p m l) = l
+marks-few (MarksBy.whole p m l) = l
 
 -- ---- Of what is kept of an input, where as many ticks as tokens are asked for
 
@@ -71,15 +71,15 @@ module _ {input words log ticks : List ℕ} {asked : Bool} (k : Kept input words
   -- A refusal, 15 among them, is printed.
   pub marks-refused : {wordOf : Mark → ℕ} {es rs ts : List ℕ} {r : Refusal}
       → Marks wordOf (asked ≡ true) words log 24576 16384 65536 (refused r) es rs ts → MarksPrinted input (refusedLine (numberOf r))
-  marks-refused (Marks.unparsed p) = MarksPrinted.unparsed (k .counted) (k .file .read) (whole-parse p)
-  marks-refused (Marks.short p m l) = MarksPrinted.beyond (k .counted) (k .file .read) (whole-parse p) (whole-marks m) l
+  marks-refused (MarksBy.unparsed p) = MarksPrinted.unparsed (k .counted) (k .file .read) (whole-parse p)
+  marks-refused (MarksBy.short p m l) = MarksPrinted.beyond (k .counted) (k .file .read) (whole-parse p) (whole-marks m) l
 
   -- Where each place has its own number, the words that are left tell the marks,
   module _ (places : List ℕ) (named : (p : ℕ) → p < length log → getD places p 0 ≡ p) where
     pub marks-printed : {es rs ts : List ℕ} {counts : Counts} {n : ℕ}
         → Marks (wordBy places 4096) (asked ≡ true) words log 24576 16384 65536 (given (counts, n)) es rs ts
         → MarksPrinted input (markListing ticks (marksIn log (take n ts)))
-    marks-printed (Marks.whole {xs = xs} p m l) =
+    marks-printed (MarksBy.whole {xs = xs} p m l) =
         let short = parsed-held p .0 .count in
         let told = ap (marksIn log) (front-marks (wordBy places 4096) 65536 xs) ∙ all-told log places short named xs (marks-kept p m) in
         subst₂ (λ ticks xs. MarksPrinted input (markListing ticks xs)) (sym (all-ticks k short)) (sym told)
@@ -88,7 +88,7 @@ module _ {input words log ticks : List ℕ} {asked : Bool} (k : Kept input words
     -- and each below 4,096 is a place, with its tick.
     pub marks-placed : {es rs ts : List ℕ} {counts : Counts} {n : ℕ}
         → Marks (wordBy places 4096) (asked ≡ true) words log 24576 16384 65536 (given (counts, n)) es rs ts → Placed (take n ts) log ticks
-    marks-placed (Marks.whole {xs = xs} p m l) =
+    marks-placed (MarksBy.whole {xs = xs} p m l) =
         subst (λ ws. Placed ws log ticks) (sym (front-marks (wordBy places 4096) 65536 xs))
         (record {
           place = all-placed log places (parsed-held p .0 .count) named xs (marks-kept p m);

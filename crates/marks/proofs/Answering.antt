@@ -10,7 +10,7 @@ use Rattle.base.specs.Written.{written, written-length}
 use Rattle.grammar.specs.Words.{END}
 use Rattle.grammar.specs.Buffers.{filled, cleared}
 use Rattle.grammar.specs.Moves.{Move, edits, editWords}
-use Rattle.grammar.specs.Marks.{Mark, tokenOf, MarksOf, Marks, MarksAnswer}
+use Rattle.grammar.specs.Marks.{Mark, tokenOf, MarksOf, Marks, MarksAnswer, MarksBy}
 use Rattle.grammar.specs.Run.{RunOf, Parses, ParsedAsking, countsOf}
 use Rattle.grammar.specs.Refusals.{Outcome, given, refused}
 use Rattle.grammar.specs.declared.Refusal.{Refusal}
@@ -93,7 +93,7 @@ module _ {Asked : Type 0} {ws log : List ℕ} {editRoom ruleRoom : ℕ} {es rs :
       let told : parsingOf a ≡ refused r = ap parsingOf e in
       let out = answered-refused r (p .answers) .0 told in
       subst (λ t. Marks wordOf Asked ws log editRoom ruleRoom room (refused r) es rs t) (sym (cleared-all before same f))
-      (Marks.unparsed (subst (λ o. Parses Asked ws log editRoom ruleRoom o es rs) out (p .parses)))
+      (MarksBy.unparsed (subst (λ o. Parses Asked ws log editRoom ruleRoom o es rs) out (p .parses)))
 
   module _ {counts : Counts} (told : a ≡ parsing.Parsed counts) where
     parse : Parse Asked ws log editRoom ruleRoom counts es rs
@@ -164,7 +164,7 @@ module _ {Asked : Type 0} {ws log : List ℕ} {editRoom ruleRoom : ℕ} {es rs :
           ap₂ (λ c k. given (c, k)) (sym (parse .counted)) (sym (h .0 ∙ size)) in
           subst₂ (λ o t. Marks (wordBy kept raise) Asked ws log editRoom ruleRoom (length old) o es rs t) answer
           (sym (filled-front old (map (wordBy kept raise) xs) (h .2) (h .1) (h .0) f))
-          (Marks.whole (parse .parses) marked (omega (arith, size, h .1)))
+          (MarksBy.whole (parse .parses) marked (omega (arith, size, h .1)))
 
       -- It does not fit: refusal 15.
       pub marks-short : {edits′ rules′ tokens′ : List ℕ} → r ≡ Short → length es ≡ editRoom → length rs ≡ ruleRoom
@@ -176,7 +176,7 @@ module _ {Asked : Type 0} {ws log : List ℕ} {editRoom ruleRoom : ℕ} {es rs :
           let over = puts e in
           let more : length old < length xs = omega (arith, size, over) in
           let blank : Marks (wordBy kept raise) Asked ws log editRoom ruleRoom (length old) (refused ShortTokens) (cleared editRoom)
-          (cleared ruleRoom) (cleared (length old)) = Marks.short (parse .parses) marked more in
+          (cleared ruleRoom) (cleared (length old)) = MarksBy.short (parse .parses) marked more in
           subst
           (λ t. Marks (wordBy kept raise) Asked ws log editRoom ruleRoom (length old) (refused ShortTokens) edits′ rules′ t)
           (sym (cleared-all tokens same-tokens h))
@@ -199,11 +199,11 @@ same-words log (Mark.added t ∷ xs) f =
 -- So where the log itself stands for its places and nothing is raised, the result is the tokens; and what is asked holds.
 pub marks-plain : {Asked : Type 0} {ws log : List ℕ} {editRoom ruleRoom tokenRoom : ℕ} {a : Outcome (Counts × ℕ)} {x u s : List ℕ} → Asked
     → Marks (wordBy log 0) Asked ws log editRoom ruleRoom tokenRoom a x u s → MarksAnswer ws log editRoom ruleRoom tokenRoom a x u s
-marks-plain held (Marks.unparsed p) = Marks.unparsed (parses-asking (λ q. tt) (λ q. held) p)
-marks-plain held (Marks.short p m l) = Marks.short (parses-asking (λ q. tt) (λ q. held) p) m l
+marks-plain held (MarksBy.unparsed p) = MarksBy.unparsed (parses-asking (λ q. tt) (λ q. held) p)
+marks-plain held (MarksBy.short p m l) = MarksBy.short (parses-asking (λ q. tt) (λ q. held) p) m l
 marks-plain {ws = ws} {log = log} {editRoom = editRoom} {ruleRoom = ruleRoom} {tokenRoom = tokenRoom} held
-    (Marks.whole {ms = ms} {xs = xs} {es = es} {rs = rs} p m l) =
+    (MarksBy.whole {ms = ms} {xs = xs} {es = es} {rs = rs} p m l) =
     subst
     (λ t. MarksAnswer ws log editRoom ruleRoom tokenRoom (given (countsOf ms, length xs)) es rs (filled tokenRoom t))
     (sym (same-words log xs (λ q u k. marks-kept p m q u k .1)))
-    (Marks.whole (parses-asking (λ q. tt) (λ q. held) p) m l)
+    (MarksBy.whole (parses-asking (λ q. tt) (λ q. held) p) m l)

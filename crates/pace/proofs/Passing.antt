@@ -1,7 +1,7 @@
 -- How a watch passes a place, test by test; and what the tests of numbers say.
 use Prim.Native.Nat.{ℕ, zero, suc, _+_}
 use mathlib.Core.Path.{_≡_, refl, sym, ap, _∙_}
-use mathlib.Core.Bool.{Bool, true, false, cond, not, _&&_, true≢false, false≢true}
+use mathlib.Core.Bool.{Bool, true, false, cond, not, _&&_, _||_, true≢false, false≢true}
 use native.Mathlib.Omega.{arith}
 use lib.Dec.{eqb}
 use lib.IntN.{pos}
@@ -33,7 +33,7 @@ deleted-mark false b e = absurd (false≢true e)
 
 -- A deleted token does nothing.
 pub passed-deleted : (marks : Marks) (here : Here) (token tick : ℕ) (w v : Watch) → here .deleted ≡ true
-    → v ≡ cond (here .edited) (spoiledBy w) w → v ≡ passedBy marks here token tick w
+    → v ≡ cond (here .edited || eqb token (marks .restart)) (spoiledBy w) w → v ≡ passedBy marks here token tick w
 unfolding passedBy stepBy
 passed-deleted marks here token tick w v e s =
     let a = deleted-mark (here .deleted) (eqb token (marks .closing)) e in
@@ -46,7 +46,7 @@ passed-deleted marks here token tick w v e s =
 
 -- A kept token closes and opens.
 pub passed-kept : (marks : Marks) (here : Here) (token tick : ℕ) (w v u r : Watch) → here .deleted ≡ false
-    → v ≡ cond (here .edited) (spoiledBy w) w → u ≡ cond (eqb token (marks .closing)) (closedBy tick v) v
+    → v ≡ cond (here .edited || eqb token (marks .restart)) (spoiledBy w) w → u ≡ cond (eqb token (marks .closing)) (closedBy tick v) v
     → r ≡ cond (eqb token (marks .opening)) (openedBy tick u) u → r ≡ passedBy marks here token tick w
 unfolding passedBy stepBy
 passed-kept marks here token tick w v u r e s f g =

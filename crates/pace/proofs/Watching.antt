@@ -2,14 +2,14 @@
 -- stands at the place, whichever run it was that left these edits.
 use Prim.Native.Nat.{ℕ, _+_, _*_, _≤_, _<_}
 use mathlib.Core.Path.{_≡_, refl, sym, ap, _∙_, subst}
-use mathlib.Core.Bool.{Bool, true, false, not, _&&_, false≢true}
+use mathlib.Core.Bool.{Bool, true, false, not, _&&_, _||_, false≢true}
 use mathlib.Core.List.{List}
 use native.Mathlib.Nat.{mul-le-mul}
 use native.Mathlib.Omega.{arith}
 use lib.ListN.{length, getD}
 use lib.Dec.{eqb}
 use borrow.Author.Tests.{eqb-true}
-use Rattle.grammar.specs.Words.{opening, closing, tickUnit}
+use Rattle.grammar.specs.Words.{opening, closing, restartMark, tickUnit}
 use Rattle.grammar.specs.Moves.{Move}
 use Rattle.grammar.specs.Run.{countsOf}
 use Rattle.grammar.specs.Pace.{Reports, paceOf, unitMs}
@@ -17,7 +17,7 @@ use Rattle.grammar.specs.Refusals.{given}
 use Rattle.grammar.specs.declared.Pace.{Pace}
 use Rattle.pace.specs.Watch.{Cursor, Stands, Few, Small, Lent, Ran, Finds, marksOf, passedBy}
 use Rattle.pace.specs.Standing.{Standing, standing-start, standing-next}
-use Rattle.pace.specs.Ended.{edited-tells, kept-tells, found-report}
+use Rattle.pace.specs.Ended.{kept-tells, spoils-tells, marks-apart, found-report}
 use Rattle.pace.specs.Found.{Found}
 use Rattle.pace.specs.Few.{few-start, few-next, few-small, unit-most}
 use Rattle.pace.specs.declared.Marks.{Marks}
@@ -26,7 +26,7 @@ use Rattle.pace.specs.declared.Watch.{Watch}
 
 -- The watch stands at place b.
 abbrev StandsAt : (ws ticks : List ℕ) → List Move → ℕ → Watch → Type 0
-StandsAt ws ticks ms b w = Standing (opening ws) (closing ws) (tickUnit ws) ticks ms b b b b w
+StandsAt ws ticks ms b w = Standing (opening ws) (closing ws) (restartMark ws) (tickUnit ws) ticks ms b b b b w
 
 pub record Watching (ws log ticks words : List ℕ) (records : ℕ) (watch : Watch) (at place : ℕ) : Type 0 where
   pub lent : Lent ws log ticks words records
@@ -42,7 +42,7 @@ opens-marked t o false l e = omega (arith, eqb-true t o e)
 
 pub watching-start : {ws log ticks words : List ℕ} {records : ℕ} → Lent ws log ticks words records
     → Watching ws log ticks words records (record { begun = false; since = 0; count = 0; sum = 0 }) 0 0
-watching-start {ws} {ticks = ticks} lent =
+watching-start {ws} {log} {ticks} {words} {records} lent =
     record {
       lent = lent;
       passed = omega arith;
@@ -54,7 +54,8 @@ watching-start {ws} {ticks = ticks} lent =
             onward = λ i l h. omega arith;
           };
       few = few-start 0;
-      standing = λ ms ran. standing-start (opening ws) (closing ws) (tickUnit ws) ticks ms 0;
+      standing = λ ms ran.
+          standing-start (opening ws) (closing ws) (restartMark ws) (tickUnit ws) ticks ms (marks-apart ws log words records ms ran) 0;
     }
 
 module _ {ws log ticks words : List ℕ} {records : ℕ} {watch : Watch} {at place : ℕ}
@@ -78,6 +79,7 @@ module _ {ws log ticks words : List ℕ} {records : ℕ} {watch : Watch} {at pla
   watching-next {here} {after} m l stands f =
       let e = f ∙ ap (λ n. passedBy n here (getD log place 0) (getD ticks place 0) watch) m in
       let token = getD log place 0 in
+      let spoils = here .edited || eqb token (restartMark ws) in
       let closes = not (here .deleted) && eqb token (closing ws) in
       let opens = not (here .deleted) && eqb token (opening ws) in
       record {
@@ -86,13 +88,14 @@ module _ {ws log ticks words : List ℕ} {records : ℕ} {watch : Watch} {at pla
         cursor = stands .cursor;
         few =
             subst (λ w. Few (place + 1) w) (sym e)
-            (few-next (here .edited) closes opens (getD ticks place 0) watch (watching .few));
+            (few-next spoils closes opens (getD ticks place 0) watch (watching .few));
         standing = λ ms ran.
             subst (λ w. StandsAt ws ticks ms (place + 1) w) (sym e)
-            (standing-next (opening ws) (closing ws) (tickUnit ws) ticks ms place (here .edited) closes opens (getD ticks place 0)
-            watch refl
+            (standing-next (opening ws) (closing ws) (restartMark ws) (tickUnit ws) ticks ms (marks-apart ws log words records ms ran) place spoils
+            closes opens (getD ticks place 0) watch refl
             (opens-marked token (opening ws) (here .deleted) (ran .admitted .fits .low place l))
-            (edited-tells ws log words records ms ran place (stands .edited))
+            (spoils-tells ws log words records ms ran place (here .edited) (here .deleted) l (ran .admitted .fits .low place l)
+            (stands .edited) (stands .deleted))
             (kept-tells ws log words records ms ran place (closing ws) (here .deleted) l (stands .deleted))
             (kept-tells ws log words records ms ran place (opening ws) (here .deleted) l (stands .deleted))
             (watching .standing ms ran));
@@ -111,11 +114,11 @@ module _ {ws log ticks words : List ℕ} {records : ℕ} {watch : Watch} {at pla
             (λ p. Reports ws ticks (given ms) (given (record { count = watch .count; sum = watch .sum * m; pace = p }, countsOf ms)))
             (sym e)
             (found-report ws log words records ms ran
-            (subst (λ (n : ℕ). Found (opening ws) (closing ws) (tickUnit ws) ticks ms (length log) (watch .count) (watch .sum * n)) (sym u)
+            (subst (λ (n : ℕ). Found (opening ws) (closing ws) (restartMark ws) (tickUnit ws) ticks ms (length log) (watch .count) (watch .sum * n)) (sym u)
             (stood .found)));
       }
 
 -- Equal marks are equal records.
-pub marks-same : {a b c d : ℕ} → a ≡ c → b ≡ d
-    → _≡_ {A = Marks} (record { opening = a; closing = b }) (record { opening = c; closing = d })
-marks-same x y = cc
+pub marks-same : {a b c d e f : ℕ} → a ≡ d → b ≡ e → c ≡ f
+    → _≡_ {A = Marks} (record { opening = a; closing = b; restart = c }) (record { opening = d; closing = e; restart = f })
+marks-same x y z = cc

@@ -2,7 +2,7 @@
 -- all the clean cycles.
 use Prim.Native.Nat.{ℕ, _-_, _≤_, _<_}
 use mathlib.Core.Path.{_≡_, refl, sym, ap, _∙_, subst}
-use mathlib.Core.Bool.{Bool, true, false, not, _&&_, false≢true}
+use mathlib.Core.Bool.{Bool, true, false, not, _&&_, _||_, true≢false, false≢true}
 use mathlib.Core.List.{List, [], _∷_, _++_, List·Memᴰ}
 use mathlib.Core.Logic.{⊎-elim}
 use native.Mathlib.Omega.{arith}
@@ -11,22 +11,28 @@ use lib.Seq.{getD-append-seam}
 use lib.Dec.{eqb}
 use borrow.Author.Tests.{eqb-true, eqb-false}
 use Rattle.base.specs.Telling.{Tells}
-use Rattle.grammar.specs.Words.{END, Marks, opening, closing, tickUnit}
+use Rattle.grammar.specs.Words.{END, Marks, Restart, opening, closing, restartMark, tickUnit}
 use Rattle.grammar.specs.Moves.{Move, edits, editWords}
 use Rattle.grammar.specs.Buffers.{filled}
 use Rattle.grammar.specs.Run.{countsOf}
-use Rattle.grammar.specs.Pace.{Kept, Edited, Span, Clean, CleanCycles, Reports, paceOf, reportOf}
+use Rattle.grammar.specs.Pace.{Kept, Edited, Span, Clean, CleanCycles, Reports, paceOf, reportOf, ReportsBy}
 use Rattle.grammar.specs.Refusals.{given}
 use Rattle.grammar.specs.theory.Places.{Walk, Deleted, walk-run, places-rise, kept-token, kept-apart, kept-or-deleted}
 use Rattle.pace.specs.Order.{below-or-not}
 use Rattle.pace.specs.Recorded.{entry-at, index-of, records-rise}
 use Rattle.pace.specs.Found.{Found}
+use Rattle.pace.specs.Standing.{Spoils}
 use Rattle.pace.specs.Watch.{SomeAt, DeleteAt, kindAt, placeAt, Records, Ran}
 
 -- A closing mark is there where an opening mark is.
 closing-marked : {T o c : ℕ} → Marks T o c → 1 ≤ o → 1 ≤ c
 closing-marked (Marks.marked a b d e) l = d
 closing-marked (Marks.unmarked a b) l = absurd (omega arith)
+
+-- A restart mark is not the closing mark.
+restart-other : {T o c m : ℕ} → Restart T o c m → 1 ≤ m → m ≡ c → ⊥
+restart-other (Restart.restarts a b d e) some = e
+restart-other (Restart.none e) some = absurd (omega arith)
 
 module _ (ws log words : List ℕ) (records : ℕ) (ms : List Move) (ran : Ran ws log words records ms) where
   walk : Walk 0 (log ++ (END ∷ [])) ms
@@ -120,10 +126,38 @@ module _ (ws log words : List ℕ) (records : ℕ) (ms : List Move) (ran : Ran w
         no = λ e k. eqb-false (getD log p END) t e (sym (log-kept p t l k));
       }
 
+  -- No closing mark is kept where a restart mark is: one token is kept there.
+  pub marks-apart : 1 ≤ restartMark ws → (p : ℕ) → Kept ms p (closing ws) → Kept ms p (restartMark ws) → ⊥
+  marks-apart some p a b =
+      let h = kept-token walk a in
+      let k = kept-token walk b in
+      let same : h .behind ≡ k .behind = omega (arith, h .place, k .place) in
+      restart-other (ran .admitted .words .shaped .restart) some
+      (k .token ∙ (ap (λ (i : ℕ). getD (log ++ (END ∷ [])) i END) (sym same) ∙ sym (h .token)))
+
+  -- A test for an edit or the restart mark is one for what spoils: a deleted token's place is edited.
+  pub spoils-tells : (p : ℕ) (e : Bool) (d : Bool) → p < length log → 1 ≤ getD log p END → Tells (SomeAt words records p) e
+      → Tells (DeleteAt words records p) d → Tells (Spoils (restartMark ws) ms p) (e || eqb (getD log p END) (restartMark ws))
+  spoils-tells p true d l some t u =
+      record { yes = λ q. Spoils.edited (some-edit p (t .yes refl)); no = λ q. absurd (true≢false q) }
+  spoils-tells p false true l some t u =
+      absurd (let h = u .yes refl in t .no refl (h .0, h .1, h .2))
+  spoils-tells p false false l some t u =
+      record {
+        yes = λ q.
+            let same = eqb-true (getD log p END) (restartMark ws) q in
+            Spoils.restarted (omega arith) (kept-tells p (restartMark ws) false l u .yes q);
+        no = λ q s. unspoiled q s;
+      }
+    where
+      unspoiled : eqb (getD log p END) (restartMark ws) ≡ false → Spoils (restartMark ws) ms p → ⊥
+      unspoiled q (Spoils.edited h) = t .no refl (edit-some p h)
+      unspoiled q (Spoils.restarted m k) = kept-tells p (restartMark ws) false l u .no q k
+
   -- ---- The end
 
   -- END is no mark, so no cycle closes there.
-  pub closes-within : (s : Span) → Clean (opening ws) (closing ws) ms s → s .closed < length log
+  pub closes-within : (s : Span) → Clean (opening ws) (closing ws) (restartMark ws) ms s → s .closed < length log
   closes-within s y =
       let mark = closing-marked (ran .admitted .words .shaped .marks) (y .cycle .marked) in
       let h = kept-token walk (y .cycle .closes) in
@@ -137,17 +171,17 @@ module _ (ws log words : List ℕ) (records : ℕ) (ms : List Move) (ran : Ran w
       (below-or-not (s .closed) (length log))
 
   -- What was found by the log's end are all clean cycles.
-  pub found-all : {unit count sum : ℕ} {ticks : List ℕ} (f : Found (opening ws) (closing ws) unit ticks ms (length log) count sum)
-      → CleanCycles (opening ws) (closing ws) ms (f .cycles)
+  pub found-all : {unit count sum : ℕ} {ticks : List ℕ} (f : Found (opening ws) (closing ws) (restartMark ws) unit ticks ms (length log) count sum)
+      → CleanCycles (opening ws) (closing ws) (restartMark ws) ms (f .cycles)
   found-all f =
       record { ascending = f .ascending; every = λ s y. f .every s y (closes-within s y); only = f .only }
 
   -- So they make the report.
-  pub found-report : {count sum : ℕ} {ticks : List ℕ} → Found (opening ws) (closing ws) (tickUnit ws) ticks ms (length log) count sum
+  pub found-report : {count sum : ℕ} {ticks : List ℕ} → Found (opening ws) (closing ws) (restartMark ws) (tickUnit ws) ticks ms (length log) count sum
       → Reports ws ticks (given ms) (given (record { count = count; sum = sum; pace = paceOf count sum }, countsOf ms))
   unfolding reportOf
   found-report {count} {sum} {ticks} f =
       let counts = f .counts in
       let sums = f .sums in
       let same : reportOf (tickUnit ws) ticks (f .cycles) ≡ record { count = count; sum = sum; pace = paceOf count sum } = cc in
-      subst (λ r. Reports ws ticks (given ms) (given (r, countsOf ms))) same (Reports.paced (found-all f))
+      subst (λ r. Reports ws ticks (given ms) (given (r, countsOf ms))) same (ReportsBy.paced (found-all f))

@@ -23,11 +23,11 @@ use Rattle.grammar.specs.Pace.{Span, Clean, Ascending, cycleMs, totalMs}
 use Rattle.pace.specs.Order.{below-or-not}
 
 -- The clean cycles that close before b, their number and the sum of their times.
-pub record Found (o c unit : ℕ) (ticks : List ℕ) (ms : List Move) (b count sum : ℕ) : Type 0 where
+pub record Found (o c m unit : ℕ) (ticks : List ℕ) (ms : List Move) (b count sum : ℕ) : Type 0 where
   pub cycles : List Span
   pub ascending : Ascending cycles
-  pub every : (s : Span) → Clean o c ms s → s .closed < b → List·Memᴰ s cycles
-  pub only : (s : Span) → List·Memᴰ s cycles → Clean o c ms s
+  pub every : (s : Span) → Clean o c m ms s → s .closed < b → List·Memᴰ s cycles
+  pub only : (s : Span) → List·Memᴰ s cycles → Clean o c m ms s
   pub before : (s : Span) → List·Memᴰ s cycles → s .closed < b
   pub counts : count ≡ length cycles
   pub sums : sum ≡ totalMs unit ticks cycles
@@ -56,9 +56,9 @@ last-member ss m =
 
 -- ---- One place more
 
-module _ (o c unit : ℕ) (ticks : List ℕ) (ms : List Move) where
+module _ (o c m unit : ℕ) (ticks : List ℕ) (ms : List Move) where
   -- Before the first place there is none.
-  pub found-start : Found o c unit ticks ms 0 0 0
+  pub found-start : Found o c m unit ticks ms 0 0 0
   unfolding totalMs
   found-start =
       record {
@@ -72,8 +72,8 @@ module _ (o c unit : ℕ) (ticks : List ℕ) (ms : List Move) where
       }
 
   -- Where no clean cycle closes at b, none more is found.
-  pub found-none : (b : ℕ) {count sum : ℕ} → ((s : Span) → Clean o c ms s → s .closed ≡ b → ⊥) → Found o c unit ticks ms b count sum
-      → Found o c unit ticks ms (b + 1) count sum
+  pub found-none : (b : ℕ) {count sum : ℕ} → ((s : Span) → Clean o c m ms s → s .closed ≡ b → ⊥) → Found o c m unit ticks ms b count sum
+      → Found o c m unit ticks ms (b + 1) count sum
   found-none b n f =
       record {
         cycles = f .cycles;
@@ -90,9 +90,9 @@ module _ (o c unit : ℕ) (ticks : List ℕ) (ms : List Move) where
       }
 
   -- The clean cycle that closes at b is found.
-  pub found-one : (b : ℕ) {count sum : ℕ} (u : Span) → u .closed ≡ b → Clean o c ms u
-      → ((s : Span) → Clean o c ms s → s .closed ≡ b → s ≡ u) → Found o c unit ticks ms b count sum
-      → Found o c unit ticks ms (b + 1) (count + 1) (sum + cycleMs unit ticks u)
+  pub found-one : (b : ℕ) {count sum : ℕ} (u : Span) → u .closed ≡ b → Clean o c m ms u
+      → ((s : Span) → Clean o c m ms s → s .closed ≡ b → s ≡ u) → Found o c m unit ticks ms b count sum
+      → Found o c m unit ticks ms (b + 1) (count + 1) (sum + cycleMs unit ticks u)
   found-one b u e k one f =
       record {
         cycles = f .cycles ++ (u ∷ []);
@@ -102,11 +102,11 @@ module _ (o c unit : ℕ) (ticks : List ℕ) (ms : List Move) where
             (λ h. Memᴰ·append-left (u ∷ []) (f .every s y h))
             (λ h. let d : s .closed ≡ b = omega arith in Memᴰ·append-right (f .cycles) (List·Memᴰ·head (one s y d)))
             (below-or-not (s .closed) b);
-        only = λ s m.
+        only = λ s h.
             ⊎-elim
             (λ i. f .only s i)
-            (λ d. subst (λ (z : Span). Clean o c ms z) (sym d) k)
-            (last-member (f .cycles) m);
+            (λ d. subst (λ (z : Span). Clean o c m ms z) (sym d) k)
+            (last-member (f .cycles) h);
         before = λ s m.
             ⊎-elim
             (λ i. let l = f .before s i in omega arith)

@@ -9,7 +9,7 @@ use borrow.Author.Tests.{eqb-true, eq-eqb}
 use Rattle.grammar.specs.Moves.{Move}
 use Rattle.grammar.specs.Refusals.{Outcome, given, refused}
 use Rattle.grammar.specs.Run.{RunOf, Settled, runConditions, Parses, ParsedAsking, countsOf, answered, left}
-use Rattle.grammar.specs.Pace.{Reports, Reported}
+use Rattle.grammar.specs.Pace.{Reports, Reported, ReportsBy}
 use Rattle.grammar.specs.declared.Refusal.{Refusal}
 use Rattle.grammar.specs.declared.Counts.{Counts}
 use Rattle.grammar.specs.declared.Report.{Report}
@@ -49,7 +49,7 @@ module _ (ticks : List ℕ) (answer : Parsing) {ws log : List ℕ} {editRoom rul
       go (given ms) p a = absurd (given-refused refl (sym a))
       go (refused q) p a =
           subst (λ z. Reported ws log ticks editRoom ruleRoom (refused z) x y) (sym (refused-same a))
-          (record { outcome = refused q; parses = p; reports = Reports.unpaced })
+          (record { outcome = refused q; parses = p; reports = ReportsBy.unpaced })
 
   pub whole : {counts : Counts} → answer ≡ Parsing.Parsed counts → Whole ws log ticks editRoom ruleRoom counts x y
   unfolding parsingOf answered left

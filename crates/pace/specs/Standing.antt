@@ -1,5 +1,5 @@
 -- What a watch knows before a place: the clean cycles that close before it, and whether a cycle is open there that is clean
--- so far. Each place keeps this: its edits, then its closing mark, then its opening mark.
+-- so far. Each place keeps this: what spoils there, then its closing mark, then its opening mark.
 use Prim.Native.Nat.{ℕ, _+_, _*_, _≤_, _<_}
 use mathlib.Core.Path.{_≡_, refl, sym, ap, _∙_, subst}
 use mathlib.Core.Bool.{Bool, true, false, cond, true≢false, false≢true}
@@ -15,46 +15,51 @@ use Rattle.pace.specs.Order.{below-or-not, below-next}
 use Rattle.pace.specs.Watch.{spoiledBy, closedBy, openedBy, stepBy}
 use Rattle.pace.specs.declared.Watch.{Watch}
 
+-- An edit or a kept restart mark has the place.
+pub data Spoils (m : ℕ) (ms : List Move) (p : ℕ) : Type 0 where
+  edited : Edited ms p → Spoils m ms p
+  restarted : 1 ≤ m → Kept ms p m → Spoils m ms p
+
 -- An opening mark is kept at place a, and behind it there is no kept opening mark before x, no kept closing mark before y and
--- no edit before e.
-pub record OpenAt (o c : ℕ) (ms : List Move) (x y e a : ℕ) : Type 0 where
+-- nothing that spoils before e.
+pub record OpenAt (o c m : ℕ) (ms : List Move) (x y e a : ℕ) : Type 0 where
   pub marked : 1 ≤ o
   pub earlier : a < x
   pub opens : Kept ms a o
   pub no-opening : (p : ℕ) → a < p → p < x → Kept ms p o → ⊥
   pub no-closing : (p : ℕ) → a < p → p < y → Kept ms p c → ⊥
-  pub unedited : (p : ℕ) → a < p → p < e → Edited ms p → ⊥
+  pub unspoiled : (p : ℕ) → a < p → p < e → Spoils m ms p → ⊥
 
 -- The watch stands at b: what it found, with its sum in ticks, and whether a cycle is open.
-pub record Standing (o c unit : ℕ) (ticks : List ℕ) (ms : List Move) (b x y e : ℕ) (w : Watch) : Type 0 where
-  pub found : Found o c unit ticks ms b (w .count) (w .sum * unitMs unit)
-  pub begun : w .begun ≡ true → (a : ℕ) × OpenAt o c ms x y e a × (w .since ≡ getD ticks a 0)
-  pub idle : w .begun ≡ false → (a : ℕ) → OpenAt o c ms x y e a → ⊥
+pub record Standing (o c m unit : ℕ) (ticks : List ℕ) (ms : List Move) (b x y e : ℕ) (w : Watch) : Type 0 where
+  pub found : Found o c m unit ticks ms b (w .count) (w .sum * unitMs unit)
+  pub begun : w .begun ≡ true → (a : ℕ) × OpenAt o c m ms x y e a × (w .since ≡ getD ticks a 0)
+  pub idle : w .begun ≡ false → (a : ℕ) → OpenAt o c m ms x y e a → ⊥
 
 -- ---- The stages
 
-module _ (o c unit : ℕ) (ticks : List ℕ) (ms : List Move) where
+module _ (o c m unit : ℕ) (ticks : List ℕ) (ms : List Move) (apart : 1 ≤ m → (p : ℕ) → Kept ms p c → Kept ms p m → ⊥) where
   -- Nothing is found before the first place.
-  pub standing-start : (since : ℕ) → Standing o c unit ticks ms 0 0 0 0 (record { begun = false; since = since; count = 0; sum = 0 })
+  pub standing-start : (since : ℕ) → Standing o c m unit ticks ms 0 0 0 0 (record { begun = false; since = since; count = 0; sum = 0 })
   standing-start since =
       record {
-        found = subst (λ (z : ℕ). Found o c unit ticks ms 0 0 z) (omega arith) (found-start o c unit ticks ms);
+        found = subst (λ (z : ℕ). Found o c m unit ticks ms 0 0 z) (omega arith) (found-start o c m unit ticks ms);
         begun = λ e. absurd (false≢true e);
         idle = λ e a h. omega (arith, h .earlier);
       }
 
   module _ (b : ℕ) where
-    -- First the edits at b: any of them spoils the open cycle.
-    stage-edits : (edited : Bool) (w : Watch) → Tells (Edited ms b) edited → Standing o c unit ticks ms b b b b w
-        → Standing o c unit ticks ms b b b (b + 1) (cond edited (spoiledBy w) w)
+    -- First what spoils the open cycle at b.
+    stage-spoils : (spoils : Bool) (w : Watch) → Tells (Spoils m ms b) spoils → Standing o c m unit ticks ms b b b b w
+        → Standing o c m unit ticks ms b b b (b + 1) (cond spoils (spoiledBy w) w)
     unfolding spoiledBy
-    stage-edits true w t s =
+    stage-spoils true w t s =
         record {
           found = s .found;
           begun = λ e. absurd (false≢true e);
-          idle = λ e a h. h .unedited b (h .earlier) (omega arith) (t .yes refl);
+          idle = λ e a h. h .unspoiled b (h .earlier) (omega arith) (t .yes refl);
         }
-    stage-edits false w t s =
+    stage-spoils false w t s =
         record {
           found = s .found;
           begun = λ e.
@@ -67,7 +72,7 @@ module _ (o c unit : ℕ) (ticks : List ℕ) (ms : List Move) where
                   opens = k .opens;
                   no-opening = k .no-opening;
                   no-closing = k .no-closing;
-                  unedited = λ p l m. below-next (λ q. Edited ms q → ⊥) p b m (λ n. k .unedited p l n) (t .no refl);
+                  unspoiled = λ p l i. below-next (λ q. Spoils m ms q → ⊥) p b i (λ n. k .unspoiled p l n) (t .no refl);
                 },
                 h .2,
               );
@@ -79,12 +84,12 @@ module _ (o c unit : ℕ) (ticks : List ℕ) (ms : List Move) where
                 opens = k .opens;
                 no-opening = k .no-opening;
                 no-closing = k .no-closing;
-                unedited = λ p l m. k .unedited p l (omega arith);
+                unspoiled = λ p l i. k .unspoiled p l (omega arith);
               });
         }
 
     -- What is open before b, with no edit up to b, and a closing mark kept at b are a clean cycle; and so the other way.
-    open-clean : (a : ℕ) → OpenAt o c ms b b (b + 1) a → Kept ms b c → Clean o c ms (record { opened = a; closed = b })
+    open-clean : (a : ℕ) → OpenAt o c m ms b b (b + 1) a → Kept ms b c → Clean o c m ms (record { opened = a; closed = b })
     open-clean a h k =
         record {
           cycle =
@@ -96,10 +101,12 @@ module _ (o c unit : ℕ) (ticks : List ℕ) (ms : List Move) where
                 no-opening = h .no-opening;
                 no-closing = h .no-closing;
               };
-          unedited = λ p l m. h .unedited p l (omega arith);
+          unedited = λ p l i d. h .unspoiled p l (omega arith) (Spoils.edited d);
+          no-restart = λ some p l i k. h .unspoiled p l (omega arith) (Spoils.restarted some k);
         }
 
-    clean-open : (s : Span) → Clean o c ms s → s .closed ≡ b → OpenAt o c ms b b (b + 1) (s .opened)
+    -- (The restart mark is not the closing mark, so that none stands at b.)
+    clean-open : (s : Span) → Clean o c m ms s → s .closed ≡ b → OpenAt o c m ms b b (b + 1) (s .opened)
     clean-open s y e =
         record {
           marked = y .cycle .marked;
@@ -107,11 +114,21 @@ module _ (o c unit : ℕ) (ticks : List ℕ) (ms : List Move) where
           opens = y .cycle .opens;
           no-opening = λ p l m. y .cycle .no-opening p l (omega arith);
           no-closing = λ p l m. y .cycle .no-closing p l (omega arith);
-          unedited = λ p l m. y .unedited p l (omega arith);
+          unspoiled = λ p l i. clean-unspoiled p l (omega arith);
         }
+      where
+        clean-unspoiled : (p : ℕ) → s .opened < p → p ≤ s .closed → Spoils m ms p → ⊥
+        clean-unspoiled p l i (Spoils.edited d) = y .unedited p l i d
+        clean-unspoiled p l i (Spoils.restarted some k) =
+            ⊎-elim
+            (λ below. y .no-restart some p l below k)
+            (λ over.
+            let here : p ≡ s .closed = omega arith in
+            apart some (s .closed) (y .cycle .closes) (subst (λ q. Kept ms q m) here k))
+            (below-or-not p (s .closed))
 
     -- One place only is open.
-    open-one : (a d : ℕ) → OpenAt o c ms b b (b + 1) a → OpenAt o c ms b b (b + 1) d → a ≡ d
+    open-one : (a d : ℕ) → OpenAt o c m ms b b (b + 1) a → OpenAt o c m ms b b (b + 1) d → a ≡ d
     open-one a d h k =
         ⊎-elim
         (λ l. absurd (h .no-opening d l (k .earlier) (k .opens)))
@@ -124,8 +141,8 @@ module _ (o c unit : ℕ) (ticks : List ℕ) (ms : List Move) where
 
     -- Then the closing mark: it counts the open cycle, and ends it.
     close-begun : (tick : ℕ) (w : Watch) → tick ≡ getD ticks b 0 → Kept ms b c → w .begun ≡ true
-        → Standing o c unit ticks ms b b b (b + 1) w
-        → Found o c unit ticks ms (b + 1) (w .count + 1) ((w .sum + wrapped (w .since) tick) * unitMs unit)
+        → Standing o c m unit ticks ms b b b (b + 1) w
+        → Found o c m unit ticks ms (b + 1) (w .count + 1) ((w .sum + wrapped (w .since) tick) * unitMs unit)
     unfolding cycleMs
     close-begun tick w t k e s =
         let h = s .begun e in
@@ -134,24 +151,24 @@ module _ (o c unit : ℕ) (ticks : List ℕ) (ms : List Move) where
         let time : wrapped (getD ticks (h .0) 0) (getD ticks b 0) ≡ wrapped (w .since) tick = cc in
         let total : w .sum * unitMs unit + cycleMs unit ticks u ≡ (w .sum + wrapped (w .since) tick) * unitMs unit =
         ap (λ (z : ℕ). w .sum * unitMs unit + z * unitMs unit) time ∙ omega arith in
-        subst (λ (z : ℕ). Found o c unit ticks ms (b + 1) (w .count + 1) z) total
-        (found-one o c unit ticks ms b u refl (open-clean (h .0) (h .1) k)
+        subst (λ (z : ℕ). Found o c m unit ticks ms (b + 1) (w .count + 1) z) total
+        (found-one o c m unit ticks ms b u refl (open-clean (h .0) (h .1) k)
         (λ v y d.
         let same : v .opened ≡ h .0 = open-one (v .opened) (h .0) (clean-open v y d) (h .1) in
         ap (λ (z : ℕ). record { opened = z; closed = v .closed }) same ∙ ap (λ (z : ℕ). record { opened = h .0; closed = z }) d)
         (s .found))
 
     -- Nothing is open at b once a closing mark is kept there.
-    ended : Kept ms b c → (a : ℕ) → OpenAt o c ms b (b + 1) (b + 1) a → ⊥
+    ended : Kept ms b c → (a : ℕ) → OpenAt o c m ms b (b + 1) (b + 1) a → ⊥
     ended k a h = h .no-closing b (h .earlier) (omega arith) k
 
-    stage-close : (tick : ℕ) (w : Watch) → tick ≡ getD ticks b 0 → Kept ms b c → Standing o c unit ticks ms b b b (b + 1) w
-        → Standing o c unit ticks ms (b + 1) b (b + 1) (b + 1) (closedBy tick w)
+    stage-close : (tick : ℕ) (w : Watch) → tick ≡ getD ticks b 0 → Kept ms b c → Standing o c m unit ticks ms b b b (b + 1) w
+        → Standing o c m unit ticks ms (b + 1) b (b + 1) (b + 1) (closedBy tick w)
     unfolding closedBy
     stage-close tick w t k s = go (w .begun) refl
       where
         go : (q : Bool) → w .begun ≡ q
-            → Standing o c unit ticks ms (b + 1) b (b + 1) (b + 1)
+            → Standing o c m unit ticks ms (b + 1) b (b + 1) (b + 1)
             (cond q
             (record { begun = false; since = w .since; count = w .count + 1; sum = w .sum + wrapped (w .since) tick })
             w)
@@ -163,18 +180,18 @@ module _ (o c unit : ℕ) (ticks : List ℕ) (ms : List Move) where
             }
         go false e =
             record {
-              found = found-none o c unit ticks ms b (λ v y d. s .idle e (v .opened) (clean-open v y d)) (s .found);
+              found = found-none o c m unit ticks ms b (λ v y d. s .idle e (v .opened) (clean-open v y d)) (s .found);
               begun = λ f. absurd (true≢false (sym f ∙ e));
               idle = λ f. ended k;
             }
 
     stage-closing : (closes : Bool) (tick : ℕ) (w : Watch) → tick ≡ getD ticks b 0 → Tells (Kept ms b c) closes
-        → Standing o c unit ticks ms b b b (b + 1) w
-        → Standing o c unit ticks ms (b + 1) b (b + 1) (b + 1) (cond closes (closedBy tick w) w)
+        → Standing o c m unit ticks ms b b b (b + 1) w
+        → Standing o c m unit ticks ms (b + 1) b (b + 1) (b + 1) (cond closes (closedBy tick w) w)
     stage-closing true tick w t k s = stage-close tick w t (k .yes refl) s
     stage-closing false tick w t n s =
         record {
-          found = found-none o c unit ticks ms b (λ v y d. n .no refl (subst (λ q. Kept ms q c) d (y .cycle .closes))) (s .found);
+          found = found-none o c m unit ticks ms b (λ v y d. n .no refl (subst (λ q. Kept ms q c) d (y .cycle .closes))) (s .found);
           begun = λ e.
               let h = s .begun e in
               let k = h .1 in (
@@ -185,7 +202,7 @@ module _ (o c unit : ℕ) (ticks : List ℕ) (ms : List Move) where
                   opens = k .opens;
                   no-opening = k .no-opening;
                   no-closing = λ p l m. below-next (λ q. Kept ms q c → ⊥) p b m (λ i. k .no-closing p l i) (n .no refl);
-                  unedited = k .unedited;
+                  unspoiled = k .unspoiled;
                 },
                 h .2,
               );
@@ -197,12 +214,12 @@ module _ (o c unit : ℕ) (ticks : List ℕ) (ms : List Move) where
                 opens = k .opens;
                 no-opening = k .no-opening;
                 no-closing = λ p l m. k .no-closing p l (omega arith);
-                unedited = k .unedited;
+                unspoiled = k .unspoiled;
               });
         }
 
     -- Last the opening mark: a cycle is open from b on. An edit at b was before it.
-    opened-here : 1 ≤ o → Kept ms b o → OpenAt o c ms (b + 1) (b + 1) (b + 1) b
+    opened-here : 1 ≤ o → Kept ms b o → OpenAt o c m ms (b + 1) (b + 1) (b + 1) b
     opened-here l k =
         record {
           marked = l;
@@ -210,11 +227,11 @@ module _ (o c unit : ℕ) (ticks : List ℕ) (ms : List Move) where
           opens = k;
           no-opening = λ p h m. absurd (omega arith);
           no-closing = λ p h m. absurd (omega arith);
-          unedited = λ p h m. absurd (omega arith);
+          unspoiled = λ p h i. absurd (omega arith);
         }
 
     -- Without one, what was open stays open.
-    open-still : (a : ℕ) → (Kept ms b o → ⊥) → OpenAt o c ms b (b + 1) (b + 1) a → OpenAt o c ms (b + 1) (b + 1) (b + 1) a
+    open-still : (a : ℕ) → (Kept ms b o → ⊥) → OpenAt o c m ms b (b + 1) (b + 1) a → OpenAt o c m ms (b + 1) (b + 1) (b + 1) a
     open-still a n k =
         record {
           marked = k .marked;
@@ -222,10 +239,10 @@ module _ (o c unit : ℕ) (ticks : List ℕ) (ms : List Move) where
           opens = k .opens;
           no-opening = λ p l m. below-next (λ q. Kept ms q o → ⊥) p b m (λ i. k .no-opening p l i) n;
           no-closing = k .no-closing;
-          unedited = k .unedited;
+          unspoiled = k .unspoiled;
         }
 
-    open-before : (a : ℕ) → a < b → OpenAt o c ms (b + 1) (b + 1) (b + 1) a → OpenAt o c ms b (b + 1) (b + 1) a
+    open-before : (a : ℕ) → a < b → OpenAt o c m ms (b + 1) (b + 1) (b + 1) a → OpenAt o c m ms b (b + 1) (b + 1) a
     open-before a l k =
         record {
           marked = k .marked;
@@ -233,12 +250,12 @@ module _ (o c unit : ℕ) (ticks : List ℕ) (ms : List Move) where
           opens = k .opens;
           no-opening = λ p h m. k .no-opening p h (omega arith);
           no-closing = k .no-closing;
-          unedited = k .unedited;
+          unspoiled = k .unspoiled;
         }
 
     stage-opening : (opens : Bool) (tick : ℕ) (w : Watch) → tick ≡ getD ticks b 0 → (opens ≡ true → 1 ≤ o) → Tells (Kept ms b o) opens
-        → Standing o c unit ticks ms (b + 1) b (b + 1) (b + 1) w
-        → Standing o c unit ticks ms (b + 1) (b + 1) (b + 1) (b + 1) (cond opens (openedBy tick w) w)
+        → Standing o c m unit ticks ms (b + 1) b (b + 1) (b + 1) w
+        → Standing o c m unit ticks ms (b + 1) (b + 1) (b + 1) (b + 1) (cond opens (openedBy tick w) w)
     unfolding openedBy
     stage-opening true tick w t l k s =
         record {
@@ -260,11 +277,11 @@ module _ (o c unit : ℕ) (ticks : List ℕ) (ms : List Move) where
         }
 
     -- A place is passed.
-    pub standing-next : (edited closes opens : Bool) (tick : ℕ) (w : Watch) → tick ≡ getD ticks b 0 → (opens ≡ true → 1 ≤ o)
-        → Tells (Edited ms b) edited → Tells (Kept ms b c) closes → Tells (Kept ms b o) opens → Standing o c unit ticks ms b b b b w
-        → Standing o c unit ticks ms (b + 1) (b + 1) (b + 1) (b + 1) (stepBy edited closes opens tick w)
+    pub standing-next : (spoils closes opens : Bool) (tick : ℕ) (w : Watch) → tick ≡ getD ticks b 0 → (opens ≡ true → 1 ≤ o)
+        → Tells (Spoils m ms b) spoils → Tells (Kept ms b c) closes → Tells (Kept ms b o) opens → Standing o c m unit ticks ms b b b b w
+        → Standing o c m unit ticks ms (b + 1) (b + 1) (b + 1) (b + 1) (stepBy spoils closes opens tick w)
     unfolding stepBy
-    standing-next edited closes opens tick w t l x y z s =
-        let spoiled = cond edited (spoiledBy w) w in
+    standing-next spoils closes opens tick w t l x y z s =
+        let spoiled = cond spoils (spoiledBy w) w in
         let closed = cond closes (closedBy tick spoiled) spoiled in
-        stage-opening opens tick closed t l z (stage-closing closes tick spoiled t y (stage-edits edited w x s))
+        stage-opening opens tick closed t l z (stage-closing closes tick spoiled t y (stage-spoils spoils w x s))

@@ -2,13 +2,13 @@
 -- the edit records stands for.
 use Prim.Native.Nat.{ℕ, _+_, _*_, _-_, _≤_, _<_}
 use mathlib.Core.Path.{_≡_}
-use mathlib.Core.Bool.{Bool, true, false, cond, not, _&&_}
+use mathlib.Core.Bool.{Bool, true, false, cond, not, _&&_, _||_}
 use mathlib.Core.List.{List}
 use mathlib.Core.Option.{none}
 use lib.ListN.{length, getD}
 use lib.Dec.{eqb}
 use Rattle.base.specs.Telling.{Tells}
-use Rattle.grammar.specs.Words.{Shaped, opening, closing}
+use Rattle.grammar.specs.Words.{Shaped, opening, closing, restartMark}
 use Rattle.grammar.specs.Moves.{Move, edits, editWords}
 use Rattle.grammar.specs.Buffers.{filled}
 use Rattle.grammar.specs.Run.{RunOf, countsOf}
@@ -71,23 +71,23 @@ closedBy tick w =
 unfoldable pub openedBy : ℕ → Watch → Watch
 openedBy tick w = record { begun = true; since = tick; count = w .count; sum = w .sum }
 
--- A place is passed: first its edits, then the closing mark, then the opening mark. A mark that is both does both.
+-- A place is passed: first what spoils there, then the closing mark, then the opening mark. A mark that is both does both.
 unfoldable pub stepBy : Bool → Bool → Bool → ℕ → Watch → Watch
 unfolding spoiledBy closedBy openedBy
-stepBy edited closes opens tick w =
-    let spoiled = cond edited (spoiledBy w) w in
+stepBy spoils closes opens tick w =
+    let spoiled = cond spoils (spoiledBy w) w in
     let closed = cond closes (closedBy tick spoiled) spoiled in
     cond opens (openedBy tick closed) closed
 
 -- The marks of the words.
 abbrev pub marksOf : List ℕ → Marks
-marksOf ws = record { opening = opening ws; closing = closing ws }
+marksOf ws = record { opening = opening ws; closing = closing ws; restart = restartMark ws }
 
--- A mark counts where its token is kept.
+-- A mark counts where its token is kept. A restart mark spoils as an edit does.
 unfoldable pub passedBy : Marks → Here → ℕ → ℕ → Watch → Watch
 unfolding stepBy
 passedBy marks here token tick w =
-    stepBy (here .edited) (not (here .deleted) && eqb token (marks .closing)) (not (here .deleted) && eqb token (marks .opening))
+    stepBy (here .edited || eqb token (marks .restart)) (not (here .deleted) && eqb token (marks .closing)) (not (here .deleted) && eqb token (marks .opening))
     tick w
 
 -- Few cycles so far: nothing overflows at one more.

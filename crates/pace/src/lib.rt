@@ -1,8 +1,9 @@
 // The pace report: document 01, "Pace". The cycles are found in one pass over the log's places, with a cursor in the edit
 // records, whose places never fall.
 ghost use mathlib.Core.Path.{_≡_};
-ghost use mathlib.Core.Bool.{true};
+ghost use mathlib.Core.Bool.{_||_, true};
 ghost use Prim.Native.Nat.{_+_, _*_, _≤_, _<_};
+ghost use lib.Dec.{eqb};
 ghost use lib.ListN.{length};
 ghost use Rattle.grammar.specs.Words.{Shaped, tickUnit};
 ghost use Rattle.grammar.specs.Pace.{Reported, paceOf, unitMs, wrapped};
@@ -36,10 +37,11 @@ pub enum Paced {
 // "Kind (1 delete, 2 insert)."
 const DELETE: u16 = 1;
 
-// The marks of a cycle.
+// The marks of a cycle, and the restart mark, 0 where there is none.
 struct Marks {
     opening: u16,
     closing: u16,
+    restart: u16,
 }
 
 // What the edit records say of one place: whether one has it, whether its token is deleted, and the first record behind
@@ -51,7 +53,7 @@ struct Here {
 }
 
 // The cycles so far, with the sum of their times in ticks. `begun` says that an opening mark was kept at tick `since`, and that
-// behind it no mark was kept and no edit stands: the next closing mark makes a clean cycle.
+// behind it no mark and no restart mark was kept and no edit stands: the next closing mark makes a clean cycle.
 struct Watch {
     begun: bool,
     since: u32,
@@ -121,6 +123,7 @@ fn marks_of(words: &[u16]) -> Marks
     Marks {
         opening: shape::opening(words),
         closing: shape::closing(words),
+        restart: shape::restart(words),
     }
 }
 
@@ -196,13 +199,13 @@ fn kind_of(edits: &[u16], i: usize) -> u16
 // ---- The cycles
 
 impl Watch {
-    // Passes a place: first its edits, then its token where that is kept.
+    // Passes a place: first what spoils a cycle there, then its token where that is kept.
     fn passed(self, marks: Marks, here: Here, token: u16, tick: u32) -> Watch
         requires { ⌜ Small self ⌝ }
         ensures { λ r. ⌜ r ≡ passedBy marks here token tick self ⌝ }
     {
         let mut watch = self;
-        if here.edited {
+        if spoils(here.edited, token, marks.restart) {
             watch = watch.spoiled();
         }
         if here.deleted {
@@ -218,7 +221,7 @@ impl Watch {
         watch
     }
 
-    // An edit: the open cycle is clean no more.
+    // An edit or a restart: the open cycle is clean no more.
     fn spoiled(mut self) -> Watch
         ensures { λ r. ⌜ r ≡ spoiledBy self ⌝ }
     {
@@ -246,6 +249,17 @@ impl Watch {
         self.since = tick;
         self
     }
+}
+
+// Whether a place spoils the cycle that is open there: an edit has it, or its token is the restart mark, which is then kept or the place
+// edited. No token is 0, so that a restart mark of 0 is none.
+fn spoils(edited: bool, token: u16, restart: u16) -> bool
+    ensures { λ r. ⌜ r ≡ (edited || eqb token restart) ⌝ }
+{
+    if edited {
+        return true;
+    }
+    token == restart
 }
 
 // The time of a cycle in ticks: "tick b minus tick a modulo 2^32".

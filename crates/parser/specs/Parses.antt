@@ -11,7 +11,7 @@ use lib.Seq.{length-take-le}
 use Rattle.grammar.specs.Words.{END, Shaped, RuleSymbol, terminalCount, nonterminalCount}
 use Rattle.grammar.specs.Buffers.{filled, cleared}
 use Rattle.grammar.specs.Grammar.{grammarOf}
-use Rattle.grammar.specs.Run.{RunOf, LogFits, runConditions, Settled, answered, left, ParsedAsking, Parsed}
+use Rattle.grammar.specs.Run.{RunOf, LogFits, LogBelow, runConditions, Settled, answered, left, ParsedAsking, Parsed}
 use Rattle.grammar.specs.Refusals.{Lowest, Outcome, given, refused}
 use Rattle.grammar.specs.declared.Refusal.{Refusal}
 use Rattle.grammar.specs.declared.Refusal.the-variants.{BadLog}
@@ -60,15 +60,15 @@ module _ {log : List ℕ} where
       at P k m here before =
           ⊎-elim (λ j. let e : i ≡ k = omega arith in subst (λ n. P (getD log n END)) e here) (λ j. before j) (le-or-lt i k)
 
-module _ {ws log : List ℕ} {Asked : Type 0} {i low high : ℕ} (w : Spanned log i low high) (all : length log ≤ i)
+module _ {T : ℕ} {log : List ℕ} {Asked : Type 0} {i low high : ℕ} (w : Spanned log i low high) (all : length log ≤ i)
     (exactly : i ≤ length log) where
   -- A token is END,
-  pub log-low : low ≡ END → Tells (LogFits ws log × Asked) false
+  pub log-low : low ≡ END → Tells (LogBelow T log × Asked) false
   log-low e = denied (λ f. omega (arith, w .lowest 1 (omega arith) (λ k m. f .0 .low k (omega arith))))
 
   -- or every token is in range, where the highest is.
-  pub log-high : (b : Bool) → 1 ≤ terminalCount ws → length log ≤ 4096 → (low ≡ END → ⊥) → Asked → Tells (high < terminalCount ws) b
-      → Tells (LogFits ws log × Asked) b
+  pub log-high : (b : Bool) → 1 ≤ T → length log ≤ 4096 → (low ≡ END → ⊥) → Asked → Tells (high < T) b
+      → Tells (LogBelow T log × Asked) b
   log-high b t l n a h =
       record {
         yes = λ e. (
@@ -80,7 +80,7 @@ module _ {ws log : List ℕ} {Asked : Type 0} {i low high : ℕ} (w : Spanned lo
           a,
         );
         no = λ e f.
-            h .no e (omega (arith, w .highest (terminalCount ws - 1) (λ k m. omega (arith, f .0 .high k (omega arith)))));
+            h .no e (omega (arith, w .highest (T - 1) (λ k m. omega (arith, f .0 .high k (omega arith)))));
       }
     where
       not-end : (t : ℕ) → (t ≡ END → ⊥) → 1 ≤ t

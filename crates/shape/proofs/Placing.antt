@@ -45,13 +45,13 @@ pub record Passed (ws places : List ℕ) (at p : ℕ) : Type 0 where
   pub exact : (q : ℕ) → q < p → getD places q 0 ≡ rulePlace ws q
 
 module _ (ws : List ℕ) (header : HeaderRight ws) where
-  pub begun : (places : List ℕ) (w : ℕ) → w ≡ word ws 0 → 256 ≤ length places → Passed ws places (6 + 2 * w) 0
-  unfolding headerSize terminalCount
-  begun places w e room =
+  pub begun : (places : List ℕ) (h w : ℕ) → h ≡ headerSize ws → w ≡ terminalCount ws → 256 ≤ length places
+      → Passed ws places (h + 2 * w) 0
+  begun places h w e f room =
       record {
         counted = omega arith;
         stands = omega (arith, place-first ws);
-        inside = omega (arith, header .inside);
+        inside = omega (arith, header .end .inside);
         room = room;
         rules = λ q h. absurd (omega arith);
         exact = λ q h. absurd (omega arith);
@@ -60,15 +60,16 @@ module _ (ws : List ℕ) (header : HeaderRight ws) where
   module _ (places : List ℕ) (at p : ℕ) (passed : Passed ws places at p) where
     -- The place fits a word.
     pub fits-word : p < word ws 2 → at < 65536
-    unfolding terminalCount rightSize
+    unfolding rightSize
     fits-word h =
         omega
         (arith, places-small ws (header .terminals .to) p (λ q l. passed .rules q l .size), header .rules .to, passed .stands)
 
-    pub more : (w : ℕ) → w ≡ word ws (at + 1) → p < word ws 2 → RuleThere ws at
+    pub more : {T : ℕ} (w : ℕ) → w ≡ word ws (at + 1) → p < word ws 2 → T ≡ terminalCount ws → RuleRight ws at T (word ws 1)
         → Passed ws (set places p at) (at + 2 + w) (p + 1)
     unfolding rightSize
-    more w e h r =
+    more w e h f right =
+        let r : RuleThere ws at = subst (λ t. RuleRight ws at t (word ws 1)) f right in
         let size : word ws (at + 1) ≡ word ws (rulePlace ws p + 1) = ap (λ k. word ws (k + 1)) (passed .stands) in
         record {
           counted = omega arith;
@@ -81,8 +82,10 @@ module _ (ws : List ℕ) (header : HeaderRight ws) where
               (getD-set-same places p at 0 (omega (arith, passed .room, header .rules .to)) ∙ passed .stands);
         }
 
-    pub refused : {P : Type 0} → p < word ws 2 → (RuleThere ws at → ⊥) → Decides P (Shaped ws) false
-    refused h wrong = shut-out (λ s. wrong (subst (RuleThere ws) (sym (passed .stands)) (rule-of ws s p h)))
+    pub refused : {P : Type 0} {T : ℕ} → p < word ws 2 → T ≡ terminalCount ws → (RuleRight ws at T (word ws 1) → ⊥)
+        → Decides P (Shaped ws) false
+    refused h f wrong =
+        shut-out (λ s. wrong (subst (λ t. RuleRight ws at t (word ws 1)) (sym f) (subst (RuleThere ws) (sym (passed .stands)) (rule-of ws s p h))))
 
     pub over : word ws 2 ≤ p → Decides (RulesRight ws places) (Shaped ws) (eqb at (length ws))
     unfolding ruleCount

@@ -1,5 +1,5 @@
 -- What stands where, if the words have the shape: the header, the words of a terminal, the words of rule p.
-use Prim.Native.Nat.{ℕ, zero, suc, _+_, _*_, _<_}
+use Prim.Native.Nat.{ℕ, zero, suc, _+_, _*_, _≤_, _<_}
 use mathlib.Core.Path.{_≡_, refl, sym, ap, _∙_, subst}
 use mathlib.Core.List.{List}
 use native.Mathlib.Omega.{arith}
@@ -22,13 +22,18 @@ use Rattle.grammar.specs.Words.{
   RuleSymbol,
   Shaped,
 }
+use Rattle.grammar.specs.theory.Headers.{size-least}
 use Rattle.grammar.specs.theory.RightSides.{right-at}
 use Rattle.shape.specs.Accessors.{LeftOf, SizeOf, SymbolAt, headerWords, terminalWords}
 use Rattle.shape.specs.Inside.{header-inside, left-ranged, right-length, symbol-small}
 
+-- The least list with the shape has a rule without symbols behind END's words.
+pub front-inside : (ws : List ℕ) → Shaped ws → 10 ≤ length ws
+front-inside ws s = omega (arith, header-inside ws s, size-least ws, s .terminals-low)
+
 -- The words of the header stand at the front,
 pub header-at : (ws : List ℕ) (i : ℕ) → i < 6 → word ws i ≡ getD (headerWords ws) i 0
-unfolding terminalCount nonterminalCount ruleCount opening closing tickUnit
+unfolding nonterminalCount ruleCount opening closing tickUnit
 header-at ws zero l = refl
 header-at ws (suc zero) l = refl
 header-at ws (suc (suc zero)) l = refl
@@ -38,15 +43,20 @@ header-at ws (suc (suc (suc (suc (suc zero))))) l = refl
 header-at ws (suc (suc (suc (suc (suc (suc i)))))) l = absurd (omega arith)
 
 -- those of the terminals behind them.
-pub terminal-at : (ws : List ℕ) (t i : ℕ) → i < 2 → word ws (6 + 2 * t + i) ≡ getD (terminalWords ws t) i 0
-unfolding headerSize insertCost reliability
-terminal-at ws t zero l = let place : 6 + 2 * t + 0 ≡ 6 + 2 * t = omega arith in ap (word ws) place
-terminal-at ws t (suc zero) l = refl
-terminal-at ws t (suc (suc i)) l = absurd (omega arith)
+terminal-there : (ws : List ℕ) (t i : ℕ) → i < 2 → word ws (headerSize ws + 2 * t + i) ≡ getD (terminalWords ws t) i 0
+unfolding insertCost reliability
+terminal-there ws t zero l =
+    let place : headerSize ws + 2 * t + 0 ≡ headerSize ws + 2 * t = omega arith in
+    ap (word ws) place
+terminal-there ws t (suc zero) l = refl
+terminal-there ws t (suc (suc i)) l = absurd (omega arith)
 
-pub terminal-inside : (ws : List ℕ) → Shaped ws → (t i : ℕ) → t < terminalCount ws → i < 2 → 6 + 2 * t + i < length ws
-unfolding headerSize
-terminal-inside ws s t i h l = omega (arith, header-inside ws s)
+pub terminal-at : (ws : List ℕ) (h t i : ℕ) → h ≡ headerSize ws → i < 2 → word ws (h + 2 * t + i) ≡ getD (terminalWords ws t) i 0
+terminal-at ws h t i e l = ap (λ k. word ws (k + 2 * t + i)) e ∙ terminal-there ws t i l
+
+pub terminal-inside : (ws : List ℕ) → Shaped ws → (h t i : ℕ) → h ≡ headerSize ws → t < terminalCount ws → i < 2
+    → h + 2 * t + i < length ws
+terminal-inside ws s h t i e below l = omega (arith, header-inside ws s)
 
 module _ (ws : List ℕ) (s : Shaped ws) (p : ℕ) (h : p < ruleCount ws) (w : ℕ) where
   pub left-at : w ≡ word ws (rulePlace ws p + 0) → LeftOf ws p w

@@ -7,6 +7,7 @@ use native.Mathlib.Omega.{arith}
 use lib.ListN.{length, getD, drop, drop-of-length-le}
 use lib.Seq.{drop-cons}
 use Rattle.grammar.specs.Words.{
+  word,
   terminalCount,
   nonterminalCount,
   ruleCount,
@@ -20,9 +21,9 @@ use Rattle.grammar.specs.Words.{
   RuleSymbol,
 }
 
--- The header, word by word.
+-- The words that both headers have, by what they say. Word 0 tells T and which header it is.
 abbrev pub headerWords : List ℕ → List ℕ
-headerWords ws = terminalCount ws ∷ nonterminalCount ws ∷ ruleCount ws ∷ opening ws ∷ closing ws ∷ tickUnit ws ∷ []
+headerWords ws = word ws 0 ∷ nonterminalCount ws ∷ ruleCount ws ∷ opening ws ∷ closing ws ∷ tickUnit ws ∷ []
 
 -- The two words of terminal t.
 abbrev pub terminalWords : List ℕ → ℕ → List ℕ

@@ -1,7 +1,8 @@
 -- Where the words of a grammar that has the shape lie: all inside the list; and what its sides are. No caller needs the layout.
 --     place-before, place-inside    each rule begins where the one before it ends, and ends inside the list
 --     header-inside                 so do the header and the terminals' words
---     places-small                  no rule begins behind word 134 + 10 * p
+--     places-small                  no rule begins behind word 135 + 10 * p
+--     words-small                   a list that has the shape has at most 2,695 words
 --     left-ranged                   a left side is one of the N nonterminals
 --     right-length, right-small     a right side's length
 --     symbol-small                  a rule's symbol is below 128
@@ -12,6 +13,7 @@ use native.Mathlib.Omega.{arith}
 use native.Mathlib.Nat.{le-refl}
 use native.Mathlib.Decide.{le-ind}
 use lib.ListN.{length, drop, length-take, length-drop}
+use Rattle.grammar.specs.theory.Headers.{size-most}
 use Rattle.grammar.specs.Words.{
   headerSize,
   terminalCount,
@@ -45,11 +47,16 @@ pub header-inside : (ws : List ℕ) → Shaped ws → headerSize ws + 2 * termin
 header-inside ws s = omega (arith, place-first ws, place-inside ws s 0 (s .rules-low))
 
 pub places-small : (ws : List ℕ) → terminalCount ws ≤ 64 → (p : ℕ) → ((q : ℕ) → q < p → rightSize ws q ≤ 8)
-    → rulePlace ws p ≤ 134 + 10 * p
-unfolding headerSize
-places-small ws few zero small = omega (arith, place-first ws)
+    → rulePlace ws p ≤ 135 + 10 * p
+places-small ws few zero small = omega (arith, place-first ws, size-most ws)
 places-small ws few (suc p) small =
     omega (arith, place-next ws p, small p (le-refl (suc p)), places-small ws few p (λ q h. small q (omega arith)))
+
+-- "The longest word list is now 2,695."
+pub words-small : (ws : List ℕ) → Shaped ws → length ws ≤ 2695
+words-small ws s =
+    omega
+    (arith, places-small ws (s .terminals-high) (ruleCount ws) (λ q l. s .rules q l .size), s .whole, s .rules-high)
 
 -- ---- Left and right sides
 

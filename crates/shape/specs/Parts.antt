@@ -3,7 +3,7 @@
 --     ready                               all parts together
 use Prim.Native.Nat.{ℕ, _+_, _*_, _≤_, _<_}
 use mathlib.Core.Bool.{Bool, true, false}
-use mathlib.Core.Path.{_≡_, refl}
+use mathlib.Core.Path.{_≡_, refl, sym, ap, _∙_}
 use mathlib.Core.List.{List}
 use native.Mathlib.Omega.{arith}
 use lib.ListN.{length, getD}
@@ -16,11 +16,13 @@ use Rattle.grammar.specs.Words.{
   opening,
   closing,
   tickUnit,
+  restartMark,
   insertCost,
   reliability,
   rightSize,
   rulePlace,
   Marks,
+  Restart,
   RuleSymbol,
   Shaped,
 }
@@ -44,24 +46,35 @@ pub record Between (low high x : ℕ) : Type 0 where
   pub from : low ≤ x
   pub to : x ≤ high
 
--- The header, END's two words, and that the terminals' words lie inside the list.
+-- The terminals' words lie inside the list, and END's two are 0.
+pub record EndRight (ws : List ℕ) : Type 0 where
+  pub inside : headerSize ws + 2 * terminalCount ws ≤ length ws
+  pub cost : word ws (headerSize ws) ≡ 0
+  pub reliability : word ws (headerSize ws + 1) ≡ 0
+
+-- What is known where that is tested, by T as it was read.
+pub record EndAsked (ws : List ℕ) (T : ℕ) : Type 0 where
+  pub read : T ≡ terminalCount ws
+  pub some : 1 ≤ T
+  pub least : 8 ≤ length ws
+
+-- The header, and what lies behind it of the terminals' words.
 pub record HeaderRight (ws : List ℕ) : Type 0 where
-  pub terminals : Between 1 64 (word ws 0)
+  pub terminals : Between 1 64 (terminalCount ws)
   pub nonterminals : Between 1 64 (word ws 1)
   pub rules : Between 1 256 (word ws 2)
-  pub marks : Marks (word ws 0) (word ws 3) (word ws 4)
+  pub marks : Marks (terminalCount ws) (word ws 3) (word ws 4)
   pub unit : Between 0 1 (word ws 5)
-  pub end-cost : word ws 6 ≡ 0
-  pub end-reliability : word ws 7 ≡ 0
-  pub inside : 6 + 2 * word ws 0 ≤ length ws
+  pub restart : Restart (terminalCount ws) (word ws 3) (word ws 4) (restartMark ws)
+  pub end : EndRight ws
 
 -- The two words of a terminal other than END.
 pub record TerminalRight (ws : List ℕ) (t : ℕ) : Type 0 where
-  pub cost : Between 1 1000 (word ws (6 + 2 * t))
-  pub reliability : Between 0 60000 (word ws (6 + 2 * t + 1))
+  pub cost : Between 1 1000 (word ws (headerSize ws + 2 * t))
+  pub reliability : Between 0 60000 (word ws (headerSize ws + 2 * t + 1))
 
 abbrev pub TerminalsRight : List ℕ → Type 0
-TerminalsRight ws = (t : ℕ) → 1 ≤ t → t < word ws 0 → TerminalRight ws t
+TerminalsRight ws = (t : ℕ) → 1 ≤ t → t < terminalCount ws → TerminalRight ws t
 
 -- The symbols of a right side that begins at a word.
 abbrev pub SymbolsRight : List ℕ → ℕ → ℕ → ℕ → ℕ → Type 0
@@ -76,7 +89,7 @@ pub record RuleRight (ws : List ℕ) (at T N : ℕ) : Type 0 where
 
 -- A rule at a place, by T and N of the header.
 abbrev pub RuleThere : List ℕ → ℕ → Type 0
-RuleThere ws at = RuleRight ws at (word ws 0) (word ws 1)
+RuleThere ws at = RuleRight ws at (terminalCount ws) (word ws 1)
 
 -- All rules, their places, and that the words end with the last.
 pub record RulesRight (ws places : List ℕ) : Type 0 where
@@ -86,21 +99,25 @@ pub record RulesRight (ws places : List ℕ) : Type 0 where
   pub exact : (p : ℕ) → p < word ws 2 → getD places p 0 ≡ rulePlace ws p
 
 pub header-of : (ws : List ℕ) → Shaped ws → HeaderRight ws
-unfolding headerSize terminalCount nonterminalCount ruleCount opening closing tickUnit insertCost reliability
+unfolding nonterminalCount ruleCount opening closing tickUnit insertCost reliability
 header-of ws s =
+    let none : headerSize ws + 2 * 0 ≡ headerSize ws = omega arith in
     record {
       terminals = record { from = s .terminals-low; to = s .terminals-high };
       nonterminals = record { from = s .nonterminals-low; to = s .nonterminals-high };
       rules = record { from = s .rules-low; to = s .rules-high };
       marks = s .marks;
       unit = record { from = omega arith; to = s .unit };
-      end-cost = s .end-cost;
-      end-reliability = s .end-reliability;
-      inside = omega (arith, header-inside ws s);
+      restart = s .restart;
+      end = record {
+        inside = omega (arith, header-inside ws s);
+        cost = ap (word ws) (sym none) ∙ s .end-cost;
+        reliability = ap (λ k. word ws (k + 1)) (sym none) ∙ s .end-reliability;
+      };
     }
 
 pub terminals-of : (ws : List ℕ) → Shaped ws → TerminalsRight ws
-unfolding headerSize terminalCount insertCost reliability
+unfolding insertCost reliability
 terminals-of ws s t some h =
     let words = s .terminals t some h in
     record {
@@ -109,14 +126,15 @@ terminals-of ws s t some h =
     }
 
 pub rule-of : (ws : List ℕ) → Shaped ws → (p : ℕ) → p < word ws 2 → RuleThere ws (rulePlace ws p)
-unfolding terminalCount nonterminalCount ruleCount rightSize
+unfolding nonterminalCount ruleCount rightSize
 rule-of ws s p h =
     let words = s .rules p h in
     record { left = words .left; size = words .size; symbols = words .symbols; inside = place-inside ws s p h }
 
 pub ready : (ws places : List ℕ) → HeaderRight ws → TerminalsRight ws → RulesRight ws places → Ready ws places
-unfolding headerSize terminalCount nonterminalCount ruleCount opening closing tickUnit insertCost reliability rightSize
+unfolding nonterminalCount ruleCount opening closing tickUnit insertCost reliability rightSize
 ready ws places h t r =
+    let none : headerSize ws + 2 * 0 ≡ headerSize ws = omega arith in
     record {
       shaped = record {
         terminals-low = h .terminals .from;
@@ -127,8 +145,9 @@ ready ws places h t r =
         rules-high = h .rules .to;
         marks = h .marks;
         unit = h .unit .to;
-        end-cost = h .end-cost;
-        end-reliability = h .end-reliability;
+        restart = h .restart;
+        end-cost = ap (word ws) none ∙ h .end .cost;
+        end-reliability = ap (λ k. word ws (k + 1)) none ∙ h .end .reliability;
         terminals = λ k some l.
             let right = t k some l in
             record { cost-low = right .cost .from; cost-high = right .cost .to; reliability-high = right .reliability .to };

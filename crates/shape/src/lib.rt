@@ -6,13 +6,16 @@ ghost use lib.ListN.{length, getD};
 ghost use Rattle.base.specs.Telling.{Tells};
 ghost use Rattle.grammar.specs.Words.{
   Marks,
+  Restart,
   RuleSymbol,
   Shaped,
   closing,
+  headerSize,
   insertCost,
   nonterminalCount,
   opening,
   reliability,
+  restartMark,
   rightSide,
   ruleCount,
   rulePlace,
@@ -25,6 +28,8 @@ ghost use Rattle.shape.specs.Accessors.{LeftOf, SizeOf, SymbolAt, header
 ghost use Rattle.shape.specs.Parts.{
   Between,
   Decides,
+  EndAsked,
+  EndRight,
   HeaderRight,
   RuleRight,
   RulesRight,
@@ -32,8 +37,11 @@ ghost use Rattle.shape.specs.Parts.{
   TerminalsRight,
 };
 
-// How many words the header has: the terminals' words begin behind it.
-const HEADER: usize = 6;
+// The least number of words: the six-word header and END's two words.
+const LEAST: usize = 8;
+
+// "Such grammars have T + 256 in word 0": beyond it the header is the seven-word one of request (vi).
+const LONG: u16 = 256;
 
 // ---- The test
 
@@ -52,14 +60,15 @@ pub fn shape(words: &[u16], places: &mut [u16]) -> bool
     rules_right(words, places)
 }
 
-// The header, END's two words, and that the terminals' words lie inside the list.
+// The header, that the terminals' words lie inside the list, and END's two words.
 fn header_right(words: &[u16]) -> bool
     ensures { λ r. ⌜ Tells (HeaderRight (now (words .entry))) r ⌝ }
 {
-    if words.len() < HEADER + 2 {
+    if words.len() < LEAST {
         return false;
     }
-    if between(words[0], 1, 64) {} else {
+    let t = terminals(words);
+    if between(t, 1, 64) {} else {
         return false;
     }
     if between(words[1], 1, 64) {} else {
@@ -68,20 +77,61 @@ fn header_right(words: &[u16]) -> bool
     if between(words[2], 1, 256) {} else {
         return false;
     }
-    if marks_right(words[0], words[3], words[4]) {} else {
+    if marks_right(t, words[3], words[4]) {} else {
         return false;
     }
     if between(words[5], 0, 1) {} else {
         return false;
     }
-    if words[HEADER] != 0 {
+    if restart_right(t, words[3], words[4], restart_word(words)) {} else {
         return false;
     }
-    if words[HEADER + 1] != 0 {
-        return false;
-    }
-    HEADER + 2 * base::wide(words[0]) <= words.len()
+    end_right(words, t)
 }
+
+// The terminals' words lie inside the list, and END's two are 0.
+fn end_right(words: &[u16], t: u16) -> bool
+    requires { ⌜ EndAsked (now words) t ⌝ }
+    ensures { λ r. ⌜ Tells (EndRight (now (words .entry))) r ⌝ }
+{
+    let at = header_size(words);
+    if at + 2 * base::wide(t) <= words.len() {} else {
+        return false;
+    }
+    if words[at] != 0 {
+        return false;
+    }
+    words[at + 1] == 0
+}
+
+// ---- Which header stands there, by word 0 alone
+
+// How many words the header has: the terminals' words begin behind it.
+fn header_size(words: &[u16]) -> usize
+    requires { ⌜ 1 ≤ length (now words) ⌝ }
+    ensures { λ r. ⌜ r ≡ headerSize (now (words .entry)) ⌝ }
+{
+    if LONG < words[0] { 7 } else { 6 }
+}
+
+// T.
+fn terminals(words: &[u16]) -> u16
+    requires { ⌜ 1 ≤ length (now words) ⌝ }
+    ensures { λ r. ⌜ r ≡ terminalCount (now (words .entry)) ⌝ }
+{
+    let word = words[0];
+    if LONG < word { word - LONG } else { word }
+}
+
+// The restart mark, 0 where there is none.
+fn restart_word(words: &[u16]) -> u16
+    requires { ⌜ 7 ≤ length (now words) ⌝ }
+    ensures { λ r. ⌜ r ≡ restartMark (now (words .entry)) ⌝ }
+{
+    if LONG < words[0] { words[6] } else { 0 }
+}
+
+// ---- The parts of the shape
 
 // Each mark 1..T-1, or both 0.
 fn marks_right(t: u16, opening: u16, closing: u16) -> bool
@@ -99,18 +149,35 @@ fn marks_right(t: u16, opening: u16, closing: u16) -> bool
     closing < t
 }
 
+// The restart mark 1..T-1 and neither of the marks, or 0.
+fn restart_right(t: u16, opening: u16, closing: u16, restart: u16) -> bool
+    ensures { λ r. ⌜ Tells (Restart t opening closing restart) r ⌝ }
+{
+    if restart == 0 {
+        return true;
+    }
+    if restart == opening {
+        return false;
+    }
+    if restart == closing {
+        return false;
+    }
+    restart < t
+}
+
 // Cost 1..1,000 and reliability 0..60,000 of each terminal but END.
 fn terminals_right(words: &[u16]) -> bool
     requires { ⌜ HeaderRight (now words) ⌝ }
     ensures { λ r. ⌜ Tells (TerminalsRight (now (words .entry))) r ⌝ }
 {
-    let count = base::wide(words[0]);
+    let count = base::wide(terminals(words));
+    let from = header_size(words);
     let mut t = 1;
     while t < count {
-        if between(words[HEADER + 2 * t], 1, 1000) {} else {
+        if between(words[from + 2 * t], 1, 1000) {} else {
             return false;
         }
-        if between(words[HEADER + 2 * t + 1], 0, 60000) {} else {
+        if between(words[from + 2 * t + 1], 0, 60000) {} else {
             return false;
         }
         t += 1;
@@ -125,10 +192,11 @@ fn rules_right(words: &[u16], places: &mut [u16]) -> bool
     ensures { λ r. ⌜ Decides (RulesRight (now (words .entry)) (now (places .exit))) (Shaped (now (words .entry))) r ⌝ }
 {
     let count = base::wide(words[2]);
-    let mut at = HEADER + 2 * base::wide(words[0]);
+    let t = terminals(words);
+    let mut at = header_size(words) + 2 * base::wide(t);
     let mut p = 0;
     while p < count {
-        if rule_right(words, at, words[0], words[1]) {} else {
+        if rule_right(words, at, t, words[1]) {} else {
             return false;
         }
         places[p] = at as u16;
@@ -209,7 +277,7 @@ pub fn terminal_count(words: &[u16]) -> usize
     requires { ⌜ Shaped (now words) ⌝ }
     ensures { λ r. ⌜ r ≡ terminalCount (now (words .entry)) ⌝ }
 {
-    base::wide(header(words, 0))
+    base::wide(terminals(words))
 }
 
 // N, nonterminals.
@@ -252,7 +320,15 @@ pub fn tick_unit(words: &[u16]) -> u16
     header(words, 5)
 }
 
-// A word of the header.
+// The restart mark, 0 where there is none.
+pub fn restart(words: &[u16]) -> u16
+    requires { ⌜ Shaped (now words) ⌝ }
+    ensures { λ r. ⌜ r ≡ restartMark (now (words .entry)) ⌝ }
+{
+    restart_word(words)
+}
+
+// A word of the header that both headers have.
 fn header(words: &[u16], i: usize) -> u16
     requires { ⌜ Shaped (now words) ⌝ }
     requires { ⌜ i < 6 ⌝ }
@@ -286,7 +362,7 @@ fn terminal_word(words: &[u16], t: usize, i: usize) -> u16
     requires { ⌜ i < 2 ⌝ }
     ensures { λ r. ⌜ r ≡ getD (terminalWords (now (words .entry)) t) i 0 ⌝ }
 {
-    words[HEADER + 2 * t + i]
+    words[header_size(words) + 2 * t + i]
 }
 
 // Word i of rule p: its left side, its length, its symbols.

@@ -6,7 +6,7 @@ use mathlib.Core.Path.{sym, subst}
 use native.Mathlib.Omega.{arith}
 use Rattle.costs.specs.Costed.{Costed}
 use Rattle.verdict.specs.Prices.{Dear, Limited, afford-none, productive-all, productive-none}
-use Rattle.grammar.specs.Words.{START, Shaped}
+use Rattle.grammar.specs.Words.{START, Shaped, insertCost}
 use Rattle.grammar.specs.Derivation.{Reachable, Productive, NoneShared}
 use Rattle.grammar.specs.Grammar.{RuleOf, Affordable, EachNonterminal, startOverEnd, Verdict}
 use Rattle.grammar.specs.declared.Refusal.the-variants.{BadShape, Unreachable, NoString, TooCostly, SharedPredict}
@@ -26,10 +26,10 @@ module _ (ws : List ℕ) where
       refused-7 n = passes s (passes r (applies n))
 
       module _ (p : EachNonterminal ws (Productive (RuleOf ws))) where
-        pub refused-8 : (EachNonterminal ws (Affordable ws) → ⊥) → Verdict ws (some TooCostly)
+        pub refused-8 : (EachNonterminal ws (Affordable (RuleOf ws) (insertCost ws)) → ⊥) → Verdict ws (some TooCostly)
         refused-8 n = passes s (passes r (passes p (applies n)))
 
-        module _ (a : EachNonterminal ws (Affordable ws)) where
+        module _ (a : EachNonterminal ws (Affordable (RuleOf ws) (insertCost ws))) where
           pub refused-9 : (NoneShared (RuleOf ws) startOverEnd → ⊥) → Verdict ws (some SharedPredict)
           refused-9 n = passes s (passes r (passes p (passes a (applies n))))
 

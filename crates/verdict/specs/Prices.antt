@@ -40,10 +40,10 @@ pub productive-none : {ws l : List ℕ} → Costed ws l → EachNonterminal ws (
 productive-none {l = l} c f k h =
     ⊎-elim (λ over. absurd (c .barren k h over (f k h))) (λ most. most) (below-or 60001 (getD l (64 + k) 0))
 
-pub afford-all : {ws l : List ℕ} → Costed ws l → Limited ws l → EachNonterminal ws (Affordable ws)
+pub afford-all : {ws l : List ℕ} → Costed ws l → Limited ws l → EachNonterminal ws (Affordable (RuleOf ws) (insertCost ws))
 afford-all {l = l} c f k h = record { cost = getD l (64 + k) 0; cheapest = c .exact k h (f k h) .cheapest; limit = f k h }
 
-pub afford-none : {ws l : List ℕ} → Costed ws l → EachNonterminal ws (Affordable ws) → Limited ws l
+pub afford-none : {ws l : List ℕ} → Costed ws l → EachNonterminal ws (Affordable (RuleOf ws) (insertCost ws)) → Limited ws l
 afford-none {ws} {l} c f k h =
     let a = f k h in
     ⊎-elim

@@ -5,7 +5,7 @@ use mathlib.Core.Path.{_≡_, sym, ap, _∙_}
 use mathlib.Core.List.{List, _∷_}
 use mathlib.Core.Option.{none}
 use lib.ListN.{length}
-use Rattle.grammar.specs.Words.{nonterminalCount, ruleCount, rightSize, rulePlace, headerSize, terminalCount}
+use Rattle.grammar.specs.Words.{nonterminalCount, ruleCount, rightSize, rulePlace, headerSize, isLong, terminalCount}
 use Rattle.grammar.specs.Moves.{Move}
 use Rattle.grammar.specs.Run.{RunOf}
 use Rattle.grammar.specs.declared.Counts.{Counts}
@@ -27,7 +27,7 @@ twelfth = first (others (others (others (others (others (others (others (others 
 
 -- Its only right side is empty, so that R is 0,
 pub case12-right-sides : (p : ℕ) → p < ruleCount (case12 .words) → rightSize (case12 .words) p ≤ 0
-unfolding ruleCount rightSize rulePlace headerSize terminalCount
+unfolding ruleCount rightSize rulePlace headerSize isLong terminalCount
 case12-right-sides zero l = omega arith
 case12-right-sides (suc p) l = absurd (omega arith)
 

@@ -1,10 +1,10 @@
 -- Document 01, "Bench examples": the twelve cases as one list, with all that the table says of each and what request (ii) of 02 changes
--- in it, and the cases of that request behind them.
+-- in it, and the cases of that request and of request (vi) behind them.
 use Prim.Native.Nat.{ℕ}
 use mathlib.Core.List.{List, [], _∷_, _++_}
 use mathlib.Core.Option.{none, some}
 use Rattle.grammar.specs.Moves.{Edit}
-use Rattle.grammar.specs.cases.Case.{Case, idle, cycles, result, refuses, editRoom}
+use Rattle.grammar.specs.cases.Case.{Case, ToldPace, idle, cycles, result, refuses, editRoom}
 
 -- ---- The grammars
 
@@ -41,6 +41,21 @@ chained =
 -- T 3: 64 -> 1 2
 abbrev pair : List ℕ
 pair = (3 ∷ 1 ∷ 1 ∷ 0 ∷ 0 ∷ 0 ∷ []) ++ ((0 ∷ 0 ∷ 1 ∷ 0 ∷ 1 ∷ 0 ∷ []) ++ (0 ∷ 2 ∷ 1 ∷ 2 ∷ []))
+
+-- Request (vi)'s grammar H, with word 0 and the restart mark open: T 5, marks 1 and 3.
+-- 64 -> 65 64; 64 -> 4 64; 64 -> empty; 65 -> 1 66 3; 66 -> 2 66; 66 -> 4 66; 66 -> empty
+abbrev hWith : ℕ → ℕ → List ℕ
+hWith first m =
+    (first ∷ 3 ∷ 7 ∷ 1 ∷ 3 ∷ 0 ∷ m ∷ [])
+    ++ ((0 ∷ 0 ∷ 20 ∷ 60 ∷ 3 ∷ 9 ∷ 4 ∷ 40 ∷ 1 ∷ 2 ∷ [])
+    ++ (0 ∷ 2 ∷ 65 ∷ 64 ∷ 0 ∷ 2 ∷ 4 ∷ 64 ∷ 0 ∷ 0 ∷ 1 ∷ 3 ∷ 1 ∷ 66 ∷ 3 ∷ 2 ∷ 2 ∷ 2 ∷ 66 ∷ 2 ∷ 2 ∷ 4 ∷ 66 ∷ 2 ∷ 0 ∷ []))
+
+abbrev H : List ℕ
+H = hWith 261 4
+
+-- T 1 in a seven-word header, 64 -> empty, with the restart mark open.
+abbrev endAlone : ℕ → List ℕ
+endAlone m = 257 ∷ 1 ∷ 1 ∷ 0 ∷ 0 ∷ 0 ∷ m ∷ 0 ∷ 0 ∷ 0 ∷ 0 ∷ []
 
 -- ---- The cases
 
@@ -120,6 +135,48 @@ emptyThings =
       lent = editRoom;
       expected = result (record { moves = 2; edits = some (insert 0 64 ∷ []); rules = none; pace = none });
     }
+    ∷ []
+
+-- A case of a log that H repairs with these edits, and of its pace.
+abbrev timed : List ℕ → List ℕ → List ℕ → ℕ → List Edit → ToldPace → Case
+timed words log ticks moves es pace = record {
+  words = words;
+  log = log;
+  ticks = ticks;
+  lent = editRoom;
+  expected = result (record { moves = moves; edits = some es; rules = none; pace = some pace });
+}
+
+abbrev unfit : List ℕ → List ℕ → List ℕ → ℕ → Case
+unfit words log ticks number = record { words = words; log = log; ticks = ticks; lent = editRoom; expected = refuses number }
+
+-- Request (vi)'s own: ticks after a controller restart.
+abbrev restarts : List Case
+restarts =
+    timed H (1 ∷ 2 ∷ 3 ∷ []) (0 ∷ 10 ∷ 30 ∷ []) 9 [] (cycles 1 30)
+    -- a restart in the cycle, and the same without a restart mark
+    ∷ timed H (1 ∷ 4 ∷ 3 ∷ []) (100 ∷ 0 ∷ 30 ∷ []) 9 [] idle
+    ∷ timed (hWith 261 0) (1 ∷ 4 ∷ 3 ∷ []) (100 ∷ 0 ∷ 30 ∷ []) 9 [] (cycles 1 4294967226)
+    -- between two cycles
+    ∷ timed H (1 ∷ 2 ∷ 3 ∷ 4 ∷ 1 ∷ 2 ∷ 3 ∷ []) (100 ∷ 110 ∷ 130 ∷ 0 ∷ 5 ∷ 10 ∷ 25 ∷ []) 18 [] (cycles 2 50)
+    -- in the first of two
+    ∷ timed H (1 ∷ 2 ∷ 4 ∷ 2 ∷ 3 ∷ 1 ∷ 3 ∷ []) (900 ∷ 950 ∷ 0 ∷ 40 ∷ 60 ∷ 70 ∷ 95 ∷ []) 18 [] (cycles 1 25)
+    -- an edit at the opening mark does not spoil, the restart behind it does
+    ∷ timed H (1 ∷ 1 ∷ 4 ∷ 3 ∷ []) (5 ∷ 9 ∷ 0 ∷ 2 ∷ []) 14 (insert 1 3 ∷ []) idle
+    -- another restart mark
+    ∷ timed (hWith 261 2) (1 ∷ 4 ∷ 3 ∷ []) (100 ∷ 200 ∷ 230 ∷ []) 9 [] (cycles 1 130)
+    -- a bad seventh word, a bad word 0, a token that is not below T
+    ∷ unfit (hWith 261 1) [] [] 5
+    ∷ unfit (hWith 261 3) [] [] 5
+    ∷ unfit (hWith 261 5) [] [] 5
+    ∷ unfit (hWith 261 65535) [] [] 5
+    ∷ unfit (hWith 5 4) [] [] 5
+    ∷ unfit (hWith 256 4) [] [] 5
+    ∷ unfit (hWith 321 4) [] [] 5
+    ∷ unfit H (5 ∷ []) (0 ∷ []) 10
+    -- T 1
+    ∷ timed (endAlone 0) [] [] 2 [] idle
+    ∷ unfit (endAlone 1) [] [] 5
     ∷ []
 
 abbrev pub cases : List Case
@@ -207,4 +264,4 @@ cases =
     -- case 11: N 2: 64 -> empty; 65 -> 1: refused 6
     ∷ record { words = small 2 2 (0 ∷ 0 ∷ 1 ∷ 1 ∷ 1 ∷ []); log = []; ticks = []; lent = editRoom; expected = refuses 6 }
     ∷ case12
-    ∷ emptyThings
+    ∷ (emptyThings ++ restarts)

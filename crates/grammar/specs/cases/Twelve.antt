@@ -7,12 +7,12 @@ use mathlib.Core.List.{List, [], _∷_}
 use mathlib.Core.Option.{Option, none, some}
 use lib.ListN.{length}
 use lib.Dec.{T, eqb, eqb→eq}
-use Rattle.grammar.specs.Words.{opening, closing, tickUnit}
+use Rattle.grammar.specs.Words.{isLong, opening, closing, restartMark, tickUnit}
 use Rattle.grammar.specs.Buffers.{filled}
 use Rattle.grammar.specs.Moves.{Move, edits, editWords, ruleNumbers}
 use Rattle.grammar.specs.Refusals.{Outcome, given, refused, numberOf}
 use Rattle.grammar.specs.Run.{Parses, Parsed, countsOf, answered, left}
-use Rattle.grammar.specs.Pace.{Span, Reports, reportOf, totalMs, cycleMs, wrapped, unitMs}
+use Rattle.grammar.specs.Pace.{Span, reportOf, totalMs, cycleMs, wrapped, unitMs, ReportsBy}
 use Rattle.grammar.specs.model.Tests.{left-of, right-of}
 use Rattle.grammar.specs.model.Reflects.{iff-test}
 use Rattle.grammar.specs.model.Parses.{fitsLog, log-test, outcomeOf, settled}
@@ -32,8 +32,8 @@ use Rattle.grammar.specs.cases.Cases.{cases}
 
 module _ (c : Case) where
   spans : List Move → List Span
-  unfolding cyclesOf opening closing
-  spans ms = cyclesOf (opening (c .words)) (closing (c .words)) ms
+  unfolding cyclesOf opening closing restartMark isLong
+  spans ms = cyclesOf (opening (c .words)) (closing (c .words)) (restartMark (c .words)) ms
 
   sum : List Move → ℕ
   unfolding spans totalMs cycleMs wrapped unitMs tickUnit
@@ -91,7 +91,7 @@ module _ (c : Case) where
         reported = record {
           outcome = given ms;
           parses = k (length (c .ticks) ≡ length (c .log)) same;
-          reports = Reports.paced (clean-cycles (opening (c .words)) (closing (c .words)) ms (left-of f g last));
+          reports = ReportsBy.paced (clean-cycles (opening (c .words)) (closing (c .words)) (restartMark (c .words)) ms (left-of f g last));
         };
         moves = eqb→eq (length ms) (told .moves) (left-of a b front);
         edits = edits-agree (c .lent) (told .edits) ms (right-of a b front);
@@ -103,7 +103,7 @@ module _ (c : Case) where
         refusal = r;
         numbered = eqb→eq (numberOf r) number h;
         parsed = parsed (refused r) k;
-        reported = record { outcome = refused r; parses = k (length (c .ticks) ≡ length (c .log)) same; reports = Reports.unpaced };
+        reported = record { outcome = refused r; parses = k (length (c .ticks) ≡ length (c .log)) same; reports = ReportsBy.unpaced };
       }
 
   -- The model's test passes: the definitions give the case.

@@ -140,9 +140,11 @@ isCycle o c ms a b =
     ((leb 1 o && ltb a b) && (isKept ms a o && isKept ms b c))
     && (noneOf (isBetween ms o a b) (keptPlaces ms) && noneOf (isBetween ms c a b) (keptPlaces ms))
 
-unfoldable pub isClean : ℕ → ℕ → List Move → ℕ → ℕ → Bool
-unfolding isCycle noneOf editPlaces edits
-isClean o c ms a b = isCycle o c ms a b && noneOf (λ p. ltb a p && leb p b) (editPlaces (edits ms))
+unfoldable pub isClean : ℕ → ℕ → ℕ → List Move → ℕ → ℕ → Bool
+unfolding isCycle isBetween noneOf editPlaces keptPlaces edits
+isClean o c m ms a b =
+    (isCycle o c ms a b && noneOf (λ p. ltb a p && leb p b) (editPlaces (edits ms)))
+    && noneOf (λ p. leb 1 m && isBetween ms m a b p) (keptPlaces ms)
 
 between-test : (ms : List Move) (t a b p : ℕ) → Reflects (isBetween ms t a b p) (((a < p) × (p < b)) × Kept ms p t)
 unfolding isBetween
@@ -170,14 +172,25 @@ cycle-test o c ms s =
       ((λ p m k. y .no-opening p (k .0 .0) (k .0 .1) (k .1)), (λ p m k. y .no-closing p (k .0 .0) (k .0 .1) (k .1))),
     ))
 
-pub clean-test : (o c : ℕ) (ms : List Move) (s : Span) → Reflects (isClean o c ms (s .opened) (s .closed)) (Clean o c ms s)
+pub clean-test : (o c m : ℕ) (ms : List Move) (s : Span) → Reflects (isClean o c m ms (s .opened) (s .closed)) (Clean o c m ms s)
 unfolding isClean
-clean-test o c ms s =
+clean-test o c m ms s =
+    let a = s .opened in
+    let b = s .closed in
     iff-test
-    (and-test (cycle-test o c ms s)
-    (none-test (editPlaces (edits ms)) (λ p. and-test (lt-test (s .opened) p) (le-test p (s .closed)))))
-    (λ h. record { cycle = h .0; unedited = λ p l m k. h .1 p (edit-place (edits ms) (k .2)) (l, m) })
-    (λ y. (y .cycle, λ p m k. y .unedited p (k .0) (k .1) (place-edit (edits ms) p m)))
+    (and-test
+    (and-test (cycle-test o c ms s) (none-test (editPlaces (edits ms)) (λ p. and-test (lt-test a p) (le-test p b))))
+    (none-test (keptPlaces ms) (λ p. and-test (le-test 1 m) (between-test ms m a b p))))
+    (λ h.
+    record {
+      cycle = h .0 .0;
+      unedited = λ p l n k. h .0 .1 p (edit-place (edits ms) (k .2)) (l, n);
+      no-restart = λ some p l n k. h .1 p (kept-place ms p m k) (some, ((l, n), k));
+    })
+    (λ y. (
+      (y .cycle, λ p i k. y .unedited p (k .0) (k .1) (place-edit (edits ms) p i)),
+      λ p i k. y .no-restart (k .0) p (k .1 .0 .0) (k .1 .0 .1) (k .1 .1),
+    ))
 
 -- The pairs of places, those that close first coming first.
 unfoldable pub pairsTo : List ℕ → ℕ → List Span
@@ -225,9 +238,9 @@ sift-out f (u ∷ ss) s m = go (f u) refl m (sift-out f ss s)
     go true q m k = ⊎-elim (λ e. subst T (sym (ap f e ∙ q)) tt) k (List·Memᴰ·cases-cons m)
     go false q m k = k m
 
-unfoldable pub cyclesOf : ℕ → ℕ → List Move → List Span
+unfoldable pub cyclesOf : ℕ → ℕ → ℕ → List Move → List Span
 unfolding sift isClean pairs keptPlaces
-cyclesOf o c ms = sift (λ s. isClean o c ms (s .opened) (s .closed)) (pairs (keptPlaces ms) (keptPlaces ms))
+cyclesOf o c m ms = sift (λ s. isClean o c m ms (s .opened) (s .closed)) (pairs (keptPlaces ms) (keptPlaces ms))
 
 unfoldable pub isAscending : List Span → Bool
 isAscending [] = true
@@ -243,15 +256,15 @@ ascending (s ∷ u ∷ ss) h =
     (ascending (u ∷ ss) (right-of (ltb (s .closed) (u .closed)) (isAscending (u ∷ ss)) h))
 
 -- Where they come out in order, they are the clean cycles.
-pub clean-cycles : (o c : ℕ) (ms : List Move) → T (isAscending (cyclesOf o c ms)) → CleanCycles o c ms (cyclesOf o c ms)
+pub clean-cycles : (o c m : ℕ) (ms : List Move) → T (isAscending (cyclesOf o c m ms)) → CleanCycles o c m ms (cyclesOf o c m ms)
 unfolding cyclesOf
-clean-cycles o c ms h =
+clean-cycles o c m ms h =
     record {
-      ascending = ascending (cyclesOf o c ms) h;
+      ascending = ascending (cyclesOf o c m ms) h;
       every = λ s y.
-          sift-in (λ u. isClean o c ms (u .opened) (u .closed)) (pairs (keptPlaces ms) (keptPlaces ms)) s
+          sift-in (λ u. isClean o c m ms (u .opened) (u .closed)) (pairs (keptPlaces ms) (keptPlaces ms)) s
           (pair (keptPlaces ms) (kept-place ms (s .opened) o (y .cycle .opens)) (kept-place ms (s .closed) c (y .cycle .closes)))
-          (clean-test o c ms s .said y);
-      only = λ s m. clean-test o c ms s .says (sift-out (λ u. isClean o c ms (u .opened) (u .closed)) (pairs (keptPlaces ms)
-          (keptPlaces ms)) s m);
+          (clean-test o c m ms s .said y);
+      only = λ s i. clean-test o c m ms s .says (sift-out (λ u. isClean o c m ms (u .opened) (u .closed)) (pairs (keptPlaces ms)
+          (keptPlaces ms)) s i);
     }

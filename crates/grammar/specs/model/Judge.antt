@@ -7,7 +7,7 @@ use mathlib.Core.List.{List, [], _∷_, _++_, append-assoc}
 use mathlib.Core.Logic.{inl, inr}
 use native.Mathlib.Omega.{arith}
 use lib.Dec.{T, leb}
-use Rattle.grammar.specs.Words.{START, END, Shaped, terminalCount, nonterminalCount, insertCost, headerSize}
+use Rattle.grammar.specs.Words.{START, END, Shaped, terminalCount, nonterminalCount, insertCost, headerSize, isLong}
 use Rattle.grammar.specs.Derivation.{All, Reachable, Productive, NoneShared}
 use Rattle.grammar.specs.Cost.{Cheapest}
 use Rattle.grammar.specs.Grammar.{RuleOf, Affordable}
@@ -28,16 +28,8 @@ use Rattle.grammar.specs.model.Sets.{
 use Rattle.grammar.specs.model.Costs.{rounds, costBy}
 use Rattle.grammar.specs.model.Prices.{isSettled, costOf, cost-known, cheapest, cheapest-unique}
 use Rattle.grammar.specs.model.Predicts.{isNoneShared, none-shared-test}
-use Rattle.grammar.specs.model.Wording.{
-  rulesOf,
-  rule-listed,
-  listed-rule,
-  ranged,
-  reachable-within,
-  productive-within,
-  predict-within,
-  cheapest-within,
-}
+use Rattle.grammar.specs.model.Wording.{rulesOf, rule-listed, listed-rule, ranged}
+use Rattle.grammar.specs.theory.SameRules.{reachable-within, productive-within, predict-within, cheapest-within}
 
 -- What holds of each nonterminal, by its symbol and by its number.
 symbols-numbers : {b : Bool} (N : ℕ) (P : ℕ → Type 0) → Reflects b ((A : ℕ) → 64 ≤ A → A < 64 + N → P A)
@@ -70,7 +62,7 @@ allProductive ws = every (isProductive (rulesOf ws) (nonterminalCount ws)) (rang
 
 -- The costs of the nonterminals.
 unfoldable pub tableOf : List ℕ → List (Option ℕ)
-unfolding rounds rulesOf insertCost headerSize nonterminalCount
+unfolding rounds rulesOf insertCost headerSize isLong nonterminalCount
 tableOf ws = rounds (insertCost ws) (rulesOf ws) (nonterminalCount ws) (nonterminalCount ws)
 
 unfoldable pub isKnown : Option ℕ → Bool
@@ -78,14 +70,14 @@ isKnown none = false
 isKnown (some c) = true
 
 unfoldable pub costsReady : List ℕ → Bool
-unfolding tableOf isSettled rulesOf every isKnown costBy range insertCost headerSize nonterminalCount
+unfolding tableOf isSettled rulesOf every isKnown costBy range insertCost headerSize isLong nonterminalCount
 costsReady ws =
     let table = tableOf ws in
     isSettled (insertCost ws) (rulesOf ws) table
     && every (λ A. isKnown (costBy (insertCost ws) table A)) (range 64 (nonterminalCount ws))
 
 unfoldable pub allAffordable : List ℕ → Bool
-unfolding tableOf every costOf range insertCost headerSize nonterminalCount
+unfolding tableOf every costOf range insertCost headerSize isLong nonterminalCount
 allAffordable ws =
     let table = tableOf ws in every (λ A. leb (costOf (insertCost ws) table A) 60000) (range 64 (nonterminalCount ws))
 
@@ -152,10 +144,10 @@ module _ (ws : List ℕ) (s : Shaped ws) where
       subst (Cheapest (RuleOf ws) price A) (sym (cost-known price table A (k .0) (k .1)))
       (cheapest-within (RuleAt rs) (RuleOf ws) from to (cheapest rs price N N settled A (k .0) (k .1)))
 
-  pub affordable-test : T (costsReady ws) → Reflects (allAffordable ws) ((k : ℕ) → k < nonterminalCount ws → Affordable ws (64 + k))
+  pub affordable-test : T (costsReady ws) → Reflects (allAffordable ws) ((k : ℕ) → k < nonterminalCount ws → Affordable (RuleOf ws) (insertCost ws) (64 + k))
   unfolding allAffordable
   affordable-test r =
-      symbols-numbers (nonterminalCount ws) (Affordable ws)
+      symbols-numbers (nonterminalCount ws) (Affordable (RuleOf ws) (insertCost ws))
       (each-in-test 64 (nonterminalCount ws)
       (λ A l h.
       iff-test (le-test (costOf (insertCost ws) (tableOf ws) A) 60000)

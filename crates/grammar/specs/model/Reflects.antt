@@ -1,9 +1,9 @@
 -- A test that says exactly whether a statement holds, and how such tests are put together.
 use Prim.Native.Nat.{ℕ, _+_, _≤_, _<_}
 use mathlib.Core.Path.{_≡_}
-use mathlib.Core.Bool.{Bool, _&&_, _||_}
+use mathlib.Core.Bool.{Bool, _&&_, _||_, not}
 use mathlib.Core.Logic.{_⊎_, inl, inr, ⊎-elim}
-use lib.Dec.{T, leb, leb→le, le→leb, ltb, ltb→lt, lt→ltb, eqb, eqb→eq}
+use lib.Dec.{T, leb, leb→le, le→leb, ltb, ltb→lt, lt→ltb, eqb, eqb→eq, not-T, T-not}
 use Rattle.grammar.specs.theory.Pigeonhole.{range, range-member, range-within}
 use Rattle.grammar.specs.model.Tests.{
   both,
@@ -43,6 +43,9 @@ or-test {a} {b} r s =
       says = λ h. ⊎-elim (λ k. inl (r .says k)) (λ k. inr (s .says k)) (one-of a b h);
       said = λ h. ⊎-elim (λ k. or-left a b (r .said k)) (λ k. or-right a b (s .said k)) h;
     }
+
+pub not-test : {a : Bool} {P : Type 0} → Reflects a P → Reflects (not a) (P → ⊥)
+not-test {a} r = record { says = λ h p. T-not a h (r .said p); said = λ h. not-T a (λ k. h (r .says k)) }
 
 -- Every number from a on, n of them: a test for each of these,
 pub each-in-test : {f : ℕ → Bool} {P : ℕ → Type 0} (a n : ℕ) → ((i : ℕ) → a ≤ i → i < a + n → Reflects (f i) (P i))

@@ -14,16 +14,16 @@ use Rattle.grammar.specs.Words.{
   RuleSymbol,
   Shaped,
   headerSize,
+  isLong,
 }
-use Rattle.grammar.specs.Derivation.{Rules, All, Step, Derives, First, Follow, Reachable, Yields, Productive, Predict}
-use Rattle.grammar.specs.Cost.{Cheapest}
+use Rattle.grammar.specs.Derivation.{All}
 use Rattle.grammar.specs.Grammar.{RuleOf}
 use Rattle.grammar.specs.theory.RightSides.{right-symbols}
 use Rattle.grammar.specs.theory.Pigeonhole.{range}
 use Rattle.grammar.specs.model.Ruled.{Rule, RuleAt, Ranged}
 
 unfoldable pub ruleOf : List ℕ → ℕ → Rule
-unfolding rulePlace rightSide leftSide rightSize headerSize terminalCount
+unfolding rulePlace rightSide leftSide rightSize headerSize isLong terminalCount
 ruleOf ws p = record { left = leftSide ws p; right = rightSide ws p }
 
 unfoldable pub rulesOf : List ℕ → List Rule
@@ -88,46 +88,4 @@ ranged ws s =
       symbols = λ p A β i.
           let r = listed-rule ws p A β i in
           subst (All (RuleSymbol (terminalCount ws) (nonterminalCount ws))) (sym (r .right)) (right-symbols ws s p (r .counted));
-    }
-
--- ---- What two sets of rules that say the same derive
-
-abbrev pub Within : Rules → Rules → Type 0
-Within R S = (p A : ℕ) (β : List ℕ) → R p A β → S p A β
-
-module _ (R S : Rules) (w : Within R S) where
-  pub step-within : {α β : List ℕ} → Step R α β → Step S α β
-  step-within (Step.here {p = p} {A = A} {β = β} r) = Step.here (w p A β r)
-  step-within (Step.later s) = Step.later (step-within s)
-
-  pub derives-within : {α β : List ℕ} → Derives R α β → Derives S α β
-  derives-within Derives.done = Derives.done
-  derives-within (Derives.step s d) = Derives.step (step-within s) (derives-within d)
-
-  pub first-within : {α : List ℕ} {t : ℕ} → First R α t → First S α t
-  first-within f = record { token = f .token; rest = f .rest; begins = derives-within (f .begins) }
-
-  pub follow-within : {σ : List ℕ} {A t : ℕ} → Follow R σ A t → Follow S σ A t
-  follow-within f = record { token = f .token; front = f .front; rest = f .rest; stands = derives-within (f .stands) }
-
-  pub reachable-within : {σ : List ℕ} {A : ℕ} → Reachable R σ A → Reachable S σ A
-  reachable-within f = record { front = f .front; rest = f .rest; stands = derives-within (f .stands) }
-
-  pub yields-within : {α v : List ℕ} → Yields R α v → Yields S α v
-  yields-within y = record { terminals = y .terminals; derives = derives-within (y .derives) }
-
-  pub productive-within : {A : ℕ} → Productive R A → Productive S A
-  productive-within p = record { string = p .string; yields = yields-within (p .yields) }
-
-  pub predict-within : {σ β : List ℕ} {A t : ℕ} → Predict R σ A β t → Predict S σ A β t
-  predict-within (Predict.by-first f) = Predict.by-first (first-within f)
-  predict-within (Predict.by-follow e f) = Predict.by-follow (derives-within e) (follow-within f)
-
-pub cheapest-within : (R S : Rules) → Within R S → Within S R → {price : ℕ → ℕ} {A c : ℕ} → Cheapest R price A c → Cheapest S price A c
-cheapest-within R S to from c =
-    record {
-      string = c .string;
-      yields = yields-within R S to (c .yields);
-      costs = c .costs;
-      least = λ w y. c .least w (yields-within S R from y);
     }

@@ -5,7 +5,7 @@ use mathlib.Core.Bool.{Bool, _&&_, _||_}
 use mathlib.Core.List.{List, [], _∷_, List·Memᴰ·head}
 use mathlib.Core.Logic.{⊎-elim}
 use lib.Dec.{T, leb, leb→le, ltb, ltb→lt, eqb, eqb→eq, lt→ltb}
-use Rattle.grammar.specs.Words.{END, Shaped, terminalCount, nonterminalCount, insertCost, reliability, headerSize}
+use Rattle.grammar.specs.Words.{END, Shaped, terminalCount, nonterminalCount, insertCost, reliability, headerSize, isLong}
 use Rattle.grammar.specs.Derivation.{CanBeEmpty}
 use Rattle.grammar.specs.Cost.{SymbolCost}
 use Rattle.grammar.specs.Grammar.{grammarOf, RuleOf, Reliable}
@@ -17,7 +17,8 @@ use Rattle.grammar.specs.model.Sets.{nulls, null-sound, nulls-complete}
 use Rattle.grammar.specs.model.Firsts.{begins, starts, firsts, isFirst, first-sound, first-complete}
 use Rattle.grammar.specs.model.Prices.{costOf, terminal-cost}
 use Rattle.grammar.specs.model.Judge.{tableOf, costsReady, ready-cost}
-use Rattle.grammar.specs.model.Wording.{rulesOf, rule-listed, listed-rule, ranged, derives-within, first-within}
+use Rattle.grammar.specs.model.Wording.{rulesOf, rule-listed, listed-rule, ranged}
+use Rattle.grammar.specs.theory.SameRules.{derives-within, first-within}
 use Rattle.grammar.specs.model.Decided.{Tests, Decided}
 
 -- A symbol of the grammar's.
@@ -26,12 +27,12 @@ isInner N X = ltb X 64 || (leb 64 X && ltb X (64 + N))
 
 -- A cost is strictly below the reliability of token t, END's being unlimited.
 unfoldable pub isBelow : List ℕ → ℕ → ℕ → Bool
-unfolding reliability headerSize
+unfolding reliability headerSize isLong
 isBelow ws c t = eqb t END || ltb c (reliability ws t)
 
 -- The tests of the words' grammar.
 unfoldable pub testsOf : List ℕ → Tests
-unfolding rulesOf nulls tableOf begins holds starts firsts isInner costOf isBelow nonterminalCount insertCost headerSize terminalCount
+unfolding rulesOf nulls tableOf begins holds starts firsts isInner costOf isBelow nonterminalCount insertCost headerSize isLong terminalCount
 testsOf ws =
     let rs = rulesOf ws in
     let N = nonterminalCount ws in

@@ -11,7 +11,7 @@ use Rattle.grammar.specs.Grammar.{grammarOf, grammarConditions, Verdict}
 use Rattle.grammar.specs.Moves.{Move}
 use Rattle.grammar.specs.Run.{LogFits, runConditions, Settled, RunOf, Parses, ParsedAsking, answered, countsOf}
 use Rattle.grammar.specs.Refusals.{Condition, _unless_, Lowest, Outcome, given, refused}
-use Rattle.grammar.specs.Pace.{Reports, Reported, reportOf}
+use Rattle.grammar.specs.Pace.{Reports, Reported, reportOf, ReportsBy}
 use Rattle.grammar.specs.declared.Refusal.{Refusal}
 use Rattle.grammar.specs.declared.Refusal.the-variants.{BadLog}
 use Rattle.grammar.specs.declared.Report.{Report}
@@ -115,9 +115,9 @@ parses-asking {A} {B} {ws} {log} {editRoom} {ruleRoom} f g p =
 
 reports-unique : {ws ticks : List ℕ} {o : Outcome (List Move)} {a b : Outcome (Report × Counts)} → Reports ws ticks o a
     → Reports ws ticks o b → a ≡ b
-reports-unique {ws = ws} {ticks = ticks} (Reports.paced {ms = ms} c) (Reports.paced d) =
+reports-unique {ws = ws} {ticks = ticks} (ReportsBy.paced {ms = ms} c) (ReportsBy.paced d) =
     ap (λ cs. given (reportOf (tickUnit ws) ticks cs, countsOf ms)) (clean-cycles-unique c d)
-reports-unique Reports.unpaced Reports.unpaced = refl
+reports-unique ReportsBy.unpaced ReportsBy.unpaced = refl
 
 -- The report's answer and its buffers are one.
 pub reported-unique : {ws log ticks : List ℕ} {editRoom ruleRoom : ℕ} {a b : Outcome (Report × Counts)} {x y u v : List ℕ}

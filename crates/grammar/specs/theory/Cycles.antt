@@ -50,8 +50,8 @@ ascending-unique (s ∷ ss) (u ∷ us) a b f g =
     apart {x} {y} l h = omega (arith, ap (λ (z : Span). z .closed) h)
 
 -- The clean cycles are one list.
-pub clean-cycles-unique : {o c : ℕ} {ms : List Move} {cs ds : List Span} → CleanCycles o c ms cs → CleanCycles o c ms ds → cs ≡ ds
+pub clean-cycles-unique : {o c m : ℕ} {ms : List Move} {cs ds : List Span} → CleanCycles o c m ms cs → CleanCycles o c m ms ds → cs ≡ ds
 clean-cycles-unique {cs = cs} {ds = ds} x y =
     ascending-unique cs ds (x .ascending) (y .ascending)
-    (λ s m. y .every s (x .only s m))
-    (λ s m. x .every s (y .only s m))
+    (λ s i. y .every s (x .only s i))
+    (λ s i. x .every s (y .only s i))

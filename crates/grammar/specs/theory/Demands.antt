@@ -10,7 +10,7 @@ use mathlib.Core.Logic.{_↔_, Iff·trans}
 use mathlib.Core.List.{List, [], _∷_, _++_}
 use mathlib.Core.Option.{Option, none, some}
 use lib.ListN.{length, getD}
-use Rattle.grammar.specs.Words.{START, END, Shaped, nonterminalCount, ruleCount, rightSize, opening, closing}
+use Rattle.grammar.specs.Words.{START, END, Shaped, nonterminalCount, ruleCount, rightSize, insertCost, opening, closing, restartMark}
 use Rattle.grammar.specs.Derivation.{Derives, All, Yields}
 use Rattle.grammar.specs.Derivation.{Reachable, Productive, NoneShared}
 use Rattle.grammar.specs.Grammar.{RuleOf, Affordable, EachNonterminal, Verdict, grammarOf, startOverEnd, grammarConditions}
@@ -118,7 +118,7 @@ report-answers p =
 -- A station is idle exactly when its run, which made the moves ms, has no clean cycle; and idle carries no time.
 pub idle-exactly : {ws log ticks : List ℕ} {editRoom ruleRoom : ℕ} {report : Report} {counts : Counts} {x y : List ℕ} {ms : List Move}
     → Reported ws log ticks editRoom ruleRoom (given (report, counts)) x y → RunOf ws log editRoom ruleRoom ms none
-    → ((report .pace ≡ Idle) ↔ ((s : Span) → Clean (opening ws) (closing ws) ms s → ⊥))
+    → ((report .pace ≡ Idle) ↔ ((s : Span) → Clean (opening ws) (closing ws) (restartMark ws) ms s → ⊥))
     × (report .pace ≡ Idle → (report .count ≡ 0) × (report .sum ≡ 0))
 idle-exactly p run = ((idle-no-cycle (told p) run, no-cycle-idle (told p) run), idle-no-time (told p))
 
@@ -129,7 +129,7 @@ pub accepted-exactly : (ws : List ℕ) → Verdict ws none
     ↔ (Shaped ws
     × EachNonterminal ws (Reachable (RuleOf ws) (START ∷ []))
     × EachNonterminal ws (Productive (RuleOf ws))
-    × EachNonterminal ws (Affordable ws)
+    × EachNonterminal ws (Affordable (RuleOf ws) (insertCost ws))
     × NoneShared (RuleOf ws) startOverEnd)
 unfolding Held
 accepted-exactly ws =

@@ -68,7 +68,7 @@ pub record AsEarlier (G : Grammar) (ms ns : List Move) : Type 0 where
   pub rules : ruleNumbers ms ≡ ruleNumbers ns
   pub tokens : passed ms ≡ passed ns
   pub records : Without (G .rules) (edits ns) (edits ms)
-  pub clean : (o c : ℕ) (s : Span) → Clean o c ms s ↔ Clean o c ns s
+  pub clean : (o c m : ℕ) (s : Span) → Clean o c m ms s ↔ Clean o c m ns s
 
 module _ (G : Grammar) (N R : ℕ) (good : Good G N R) where
   -- Two runs by 01's rule of one state are one.

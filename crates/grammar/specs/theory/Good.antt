@@ -18,6 +18,7 @@ use Rattle.grammar.specs.Words.{
   rightSide,
   rightSize,
   rulePlace,
+  insertCost,
 }
 use Rattle.grammar.specs.Derivation.{All, Reachable, Productive, NoneShared}
 use Rattle.grammar.specs.Cost.{Cheapest}
@@ -71,7 +72,7 @@ pub record Accepted (ws : List ℕ) : Type 0 where
   pub shaped : Shaped ws
   pub reachable : EachNonterminal ws (Reachable (RuleOf ws) (START ∷ []))
   pub productive : EachNonterminal ws (Productive (RuleOf ws))
-  pub affordable : EachNonterminal ws (Affordable ws)
+  pub affordable : EachNonterminal ws (Affordable (RuleOf ws) (insertCost ws))
   pub none-shared : NoneShared (RuleOf ws) startOverEnd
 
 -- Accepted words meet all five.

@@ -9,7 +9,7 @@ use lib.ListN.{length}
 use Rattle.grammar.specs.Buffers.{filled, cleared}
 use Rattle.grammar.specs.Moves.{Move, edits, editWords, ruleNumbers}
 use Rattle.grammar.specs.Run.{runConditions, RunOf, Settled, Parses, countsOf, left}
-use Rattle.grammar.specs.Marks.{Mark, MarksOf, Marks}
+use Rattle.grammar.specs.Marks.{Mark, MarksOf, Marks, MarksBy}
 use Rattle.grammar.specs.Refusals.{Lowest, Outcome, given, refused}
 use Rattle.grammar.specs.declared.Refusal.{Refusal}
 use Rattle.grammar.specs.declared.Refusal.the-variants.{ShortTokens}
@@ -46,22 +46,22 @@ module _ {wordOf : Mark → ℕ} {Asked : Type 0} {ws log : List ℕ} {editRoom 
   -- The answer and the three buffers are one.
   pub marks-unique : {a b : Outcome (Counts × ℕ)} {x y u v s t : List ℕ} → Marks wordOf Asked ws log editRoom ruleRoom tokenRoom a x u s
       → Marks wordOf Asked ws log editRoom ruleRoom tokenRoom b y v t → (a ≡ b) × (x ≡ y) × (u ≡ v) × (s ≡ t)
-  marks-unique (Marks.unparsed p) (Marks.unparsed q) =
+  marks-unique (MarksBy.unparsed p) (MarksBy.unparsed q) =
       let same = parses-unique p q in (ap refused (refused-same (same .0)), same .1, same .2, refl)
-  marks-unique (Marks.unparsed p) (Marks.short q m l) = absurd (given-refused refl (sym (parses-unique p q .0)))
-  marks-unique (Marks.unparsed p) (Marks.whole q m l) = absurd (given-refused refl (sym (parses-unique p q .0)))
-  marks-unique (Marks.short p m l) (Marks.unparsed q) = absurd (given-refused refl (parses-unique p q .0))
-  marks-unique (Marks.short p m l) (Marks.short q n k) = (refl, refl, refl, refl)
-  marks-unique (Marks.short {xs = xs} p m l) (Marks.whole {xs = ys} q n k) =
+  marks-unique (MarksBy.unparsed p) (MarksBy.short q m l) = absurd (given-refused refl (sym (parses-unique p q .0)))
+  marks-unique (MarksBy.unparsed p) (MarksBy.whole q m l) = absurd (given-refused refl (sym (parses-unique p q .0)))
+  marks-unique (MarksBy.short p m l) (MarksBy.unparsed q) = absurd (given-refused refl (parses-unique p q .0))
+  marks-unique (MarksBy.short p m l) (MarksBy.short q n k) = (refl, refl, refl, refl)
+  marks-unique (MarksBy.short {xs = xs} p m l) (MarksBy.whole {xs = ys} q n k) =
       let same = given-same (parses-unique p q .0) in
       let one : xs ≡ ys = marks-one (subst (λ ms. MarksOf ws ms xs) same m) n in
       absurd (omega (arith, ap length one))
-  marks-unique (Marks.whole p m l) (Marks.unparsed q) = absurd (given-refused refl (parses-unique p q .0))
-  marks-unique (Marks.whole {xs = xs} p m l) (Marks.short {xs = ys} q n k) =
+  marks-unique (MarksBy.whole p m l) (MarksBy.unparsed q) = absurd (given-refused refl (parses-unique p q .0))
+  marks-unique (MarksBy.whole {xs = xs} p m l) (MarksBy.short {xs = ys} q n k) =
       let same = given-same (parses-unique p q .0) in
       let one : xs ≡ ys = marks-one (subst (λ ms. MarksOf ws ms xs) same m) n in
       absurd (omega (arith, ap length one))
-  marks-unique (Marks.whole {ms = ms} {xs = xs} p m l) (Marks.whole {ms = ns} {xs = ys} q n k) =
+  marks-unique (MarksBy.whole {ms = ms} {xs = xs} p m l) (MarksBy.whole {ms = ns} {xs = ys} q n k) =
       let both = parses-unique p q in
       let same = given-same (both .0) in
       let one : xs ≡ ys = marks-one (subst (λ ms. MarksOf ws ms xs) same m) n in (
@@ -73,26 +73,26 @@ module _ {wordOf : Mark → ℕ} {Asked : Type 0} {ws log : List ℕ} {editRoom 
 
   refused-as : {a : Outcome (Counts × ℕ)} {x u s : List ℕ} {q : Refusal} → Marks wordOf Asked ws log editRoom ruleRoom tokenRoom a x u s
       → a ≡ refused q → MarksRefuse Asked ws log editRoom ruleRoom tokenRoom q
-  refused-as (Marks.unparsed {r = r} p) e = MarksRefuse.parsing (parses-exactly p _ .0 (ap refused (refused-same e)))
-  refused-as (Marks.short p m l) e =
+  refused-as (MarksBy.unparsed {r = r} p) e = MarksRefuse.parsing (parses-exactly p _ .0 (ap refused (refused-same e)))
+  refused-as (MarksBy.short p m l) e =
       MarksRefuse.short (sym (refused-same e)) (lowest-held (runConditions ws log Asked) .0 (held-of (p .settled))) (run-of p .1) m l
     where
       held-of : {ms : List Move} → Settled (runConditions ws log Asked) (RunOf ws log editRoom ruleRoom) (given ms)
           → Lowest (runConditions ws log Asked) none
       held-of (Settled.whole h r) = h
-  refused-as (Marks.whole p m l) e = absurd (given-refused refl e)
+  refused-as (MarksBy.whole p m l) e = absurd (given-refused refl e)
 
   as-refused : {q : Refusal} → MarksRefuse Asked ws log editRoom ruleRoom tokenRoom q
       → (x : List ℕ) × (u : List ℕ) × Marks wordOf Asked ws log editRoom ruleRoom tokenRoom (refused q) x u (cleared tokenRoom)
   unfolding left
   as-refused (MarksRefuse.parsing g) =
-      (cleared editRoom, cleared ruleRoom, Marks.unparsed (record { settled = given-settled g; leaves-edits = refl; leaves-rules = refl }))
+      (cleared editRoom, cleared ruleRoom, MarksBy.unparsed (record { settled = given-settled g; leaves-edits = refl; leaves-rules = refl }))
   as-refused (MarksRefuse.short {ms = ms} e h r m l) = (
     cleared editRoom,
     cleared ruleRoom,
     subst (λ q. Marks wordOf Asked ws log editRoom ruleRoom tokenRoom (refused q) (cleared editRoom) (cleared ruleRoom) (cleared tokenRoom))
         (sym e)
-        (Marks.short
+        (MarksBy.short
         (record { settled = Settled.whole (lowest-held (runConditions ws log Asked) .1 h) r; leaves-edits = refl; leaves-rules = refl }) m l),
   )
 
@@ -105,17 +105,17 @@ module _ {wordOf : Mark → ℕ} {Asked : Type 0} {ws log : List ℕ} {editRoom 
   pub marks-zeros : {a : Outcome (Counts × ℕ)} {x u s : List ℕ} {q : Refusal}
       → Marks wordOf Asked ws log editRoom ruleRoom tokenRoom a x u s
       → a ≡ refused q → (x ≡ cleared editRoom) × (u ≡ cleared ruleRoom) × (s ≡ cleared tokenRoom)
-  marks-zeros (Marks.unparsed p) e = let z = parses-zeros p refl in (z .0, z .1, refl)
-  marks-zeros (Marks.short p m l) e = (refl, refl, refl)
-  marks-zeros (Marks.whole p m l) e = absurd (given-refused refl e)
+  marks-zeros (MarksBy.unparsed p) e = let z = parses-zeros p refl in (z .0, z .1, refl)
+  marks-zeros (MarksBy.short p m l) e = (refl, refl, refl)
+  marks-zeros (MarksBy.whole p m l) e = absurd (given-refused refl e)
 
   -- Else the buffers hold records, rule numbers and marks.
   pub marks-give : {a : Outcome (Counts × ℕ)} {x u s : List ℕ} {counts : Counts} {n : ℕ}
       → Marks wordOf Asked ws log editRoom ruleRoom tokenRoom a x u s → a ≡ given (counts, n)
       → MarksGive wordOf ws log editRoom ruleRoom tokenRoom x u s counts n
-  marks-give (Marks.unparsed p) e = absurd (given-refused e refl)
-  marks-give (Marks.short p m l) e = absurd (given-refused e refl)
-  marks-give (Marks.whole {ms = ms} {xs = xs} p m l) e =
+  marks-give (MarksBy.unparsed p) e = absurd (given-refused e refl)
+  marks-give (MarksBy.short p m l) e = absurd (given-refused e refl)
+  marks-give (MarksBy.whole {ms = ms} {xs = xs} p m l) e =
       let words = parses-words p refl in
       let run = run-of p in
       record {

@@ -13,7 +13,7 @@ use Rattle.grammar.specs.File.{fileConditions}
 use Rattle.grammar.specs.Writing.{writeConditions}
 use Rattle.grammar.specs.Grammar.{grammarConditions}
 use Rattle.grammar.specs.Run.{runConditions, Settled, RunOf, Parses, answered, countsOf, left}
-use Rattle.grammar.specs.Pace.{Reports}
+use Rattle.grammar.specs.Pace.{Reports, ReportsBy}
 use Rattle.grammar.specs.declared.Refusal.{Refusal}
 use Rattle.grammar.specs.declared.Refusal.the-variants.{NoRoom}
 use Rattle.grammar.specs.declared.Counts.{Counts}
@@ -137,10 +137,10 @@ answered-given (refused r) e = absurd (given-refused refl e)
 
 pub reports-refused : {ws ticks : List ℕ} {o : Outcome (List Move)} {a : Outcome (Report × Counts)} (r : Refusal) → Reports ws ticks o a
     → (a ≡ refused r) ↔ (o ≡ refused r)
-reports-refused r (Reports.paced c) = (λ e. absurd (given-refused refl e), λ e. absurd (given-refused refl e))
-reports-refused r Reports.unpaced = (λ e. ap refused (refused-same e), λ e. ap refused (refused-same e))
+reports-refused r (ReportsBy.paced c) = (λ e. absurd (given-refused refl e), λ e. absurd (given-refused refl e))
+reports-refused r ReportsBy.unpaced = (λ e. ap refused (refused-same e), λ e. ap refused (refused-same e))
 
 pub reports-given : {ws ticks : List ℕ} {o : Outcome (List Move)} {a : Outcome (Report × Counts)} {report : Report} {counts : Counts}
     → Reports ws ticks o a → a ≡ given (report, counts) → (ms : List Move) × (o ≡ given ms) × (counts ≡ countsOf ms)
-reports-given (Reports.paced {ms = ms} c) e = (ms, refl, sym (ap (λ (x : Report × Counts). x .1) (given-same e)))
-reports-given Reports.unpaced e = absurd (given-refused e refl)
+reports-given (ReportsBy.paced {ms = ms} c) e = (ms, refl, sym (ap (λ (x : Report × Counts). x .1) (given-same e)))
+reports-given ReportsBy.unpaced e = absurd (given-refused e refl)

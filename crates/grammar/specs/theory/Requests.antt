@@ -3,16 +3,16 @@ use Prim.Native.Nat.{ℕ, _+_, _≤_, _<_}
 use mathlib.Core.Path.{_≡_, refl, sym, ap, ap₂, subst, _∙_}
 use mathlib.Core.List.{List, [], _∷_, map, List·Memᴰ}
 use mathlib.Core.Logic.{_↔_}
-use mathlib.Core.Option.{none}
+use mathlib.Core.Option.{none, some}
 use native.Mathlib.Omega.{arith}
 use lib.ListN.{length, take}
-use Rattle.grammar.specs.Words.{START, RuleSymbol, nonterminalCount, insertCost, opening, closing}
+use Rattle.grammar.specs.Words.{START, word, RuleSymbol, nonterminalCount, insertCost, opening, closing, restartMark}
 use Rattle.grammar.specs.Derivation.{CanBeEmpty, Yields}
 use Rattle.grammar.specs.Cost.{stringCost, ListCost, CheapestRule, Ends}
-use Rattle.grammar.specs.Grammar.{RuleOf, Verdict, grammarOf}
+use Rattle.grammar.specs.Grammar.{RuleOf, Verdict, VerdictBy, grammarOf, meaningOf}
 use Rattle.grammar.specs.Moves.{Move, edits}
 use Rattle.grammar.specs.Run.{Pop, Choice, correcting, State, started, made, LogFits, RunOf}
-use Rattle.grammar.specs.Pace.{Span, Clean}
+use Rattle.grammar.specs.Pace.{Kept, Edited, Span, Cycle, Clean}
 use Rattle.grammar.specs.Buffers.{filled, cleared, Fills}
 use Rattle.grammar.specs.File.{FileRead}
 use Rattle.grammar.specs.Writing.{blocksOf, WordCount, writeConditions, FileWritten}
@@ -20,10 +20,13 @@ use Rattle.grammar.specs.Desk.{deskConditions, DeskAnswer}
 use Rattle.grammar.specs.Marks.{Mark, tokenOf, MarksOf, MarksAnswer}
 use Rattle.grammar.specs.Refusals.{Outcome, given}
 use Rattle.grammar.specs.declared.Counts.{Counts}
+use Rattle.grammar.specs.declared.Refusal.the-variants.{BadShape}
 use Rattle.grammar.specs.theory.Answers.{log-tokens}
+use Rattle.grammar.specs.theory.Behind as Behind
+use Rattle.grammar.specs.theory.Behind.{sevenWords, sixForm}
 use Rattle.grammar.specs.theory.Blocks.{blocks-below}
 use Rattle.grammar.specs.theory.CheapestRules as CheapestRules
-use Rattle.grammar.specs.theory.Conditions.{Held, held, all-met, passes}
+use Rattle.grammar.specs.theory.Conditions.{Held, held, all-met, applies, passes}
 use Rattle.grammar.specs.theory.Costing.{cheapest-rule-unique}
 use Rattle.grammar.specs.theory.Demands.{Answered, repaired-correct}
 use Rattle.grammar.specs.theory.Desk as Desk
@@ -38,11 +41,14 @@ use Rattle.grammar.specs.theory.MarkAnswers as MarkAnswers
 use Rattle.grammar.specs.theory.MarkAnswers.{MarksRefuse, MarksGive}
 use Rattle.grammar.specs.theory.Marking as Marking
 use Rattle.grammar.specs.theory.Marking.{insertedSymbols, addedTokens}
+use Rattle.grammar.specs.theory.Meanings.{SameAnswers, alike-answers}
 use Rattle.grammar.specs.theory.OnlyFile as OnlyFile
 use Rattle.grammar.specs.theory.OnlyFile.{Below}
 use Rattle.grammar.specs.theory.ReadBack.{file-right, file-holds, is-blocks}
 use Rattle.grammar.specs.theory.Refused.{write-in-order}
 use Rattle.grammar.specs.theory.SameCycles as SameCycles
+use Rattle.grammar.specs.theory.SixWords as SixWords
+use Rattle.grammar.specs.theory.SixWords.{sixWords}
 
 -- ======== (i) Write grammar files too
 
@@ -140,8 +146,8 @@ module _ (ws log : List ℕ) (accepts : Verdict ws none) (fits : LogFits ws log)
 
   -- "The test for a clean cycle" comes out as it did.
   pub same-cycles-clean : (ns : List Move) → EarlierRunOf ws log ns → (s : Span)
-      → Clean (opening ws) (closing ws) ms s ↔ Clean (opening ws) (closing ws) ns s
-  same-cycles-clean ns before = as-every-earlier ns before .clean (opening ws) (closing ws)
+      → Clean (opening ws) (closing ws) (restartMark ws) ms s ↔ Clean (opening ws) (closing ws) (restartMark ws) ns s
+  same-cycles-clean ns before = as-every-earlier ns before .clean (opening ws) (closing ws) (restartMark ws)
 
 -- ======== (iii) Which rule is the cheap one
 
@@ -224,3 +230,35 @@ pub marks-unique : {ws log x y u v s t : List ℕ} {editRoom ruleRoom tokenRoom 
     → MarksAnswer ws log editRoom ruleRoom tokenRoom a x u s → MarksAnswer ws log editRoom ruleRoom tokenRoom b y v t
     → (a ≡ b) × (x ≡ y) × (u ≡ v) × (s ≡ t)
 marks-unique p q = MarkAnswers.marks-unique p q
+
+-- ======== (vi) Ticks after a controller restart
+
+-- "Old words mean what they meant": to words whose word 0 is at most 64 every answer is the one of 01's six-word header, in which no word
+-- is a restart mark.
+pub old-words : (ws : List ℕ) → word ws 0 ≤ 64 → SameAnswers (meaningOf ws) (sixWords ws)
+old-words ws old = alike-answers (SixWords.short-alike ws (omega arith))
+
+-- A seven-word grammar whose restart mark is 0 means the same as its six-word form: every answer to the one is the answer to the other.
+pub same-as-six-words : (T N P o c u : ℕ) (rest : List ℕ) → 1 ≤ T → T ≤ 64
+    → SameAnswers (meaningOf (sevenWords T N P o c u rest)) (meaningOf (sixForm T N P o c u rest))
+same-as-six-words T N P o c u rest low high = alike-answers (Behind.form-alike T N P o c u rest low high)
+
+-- "Such grammars have T + 256 in word 0, and a grammar check made for 01 refuses them with 5."
+pub earlier-check-refuses : (ws : List ℕ) → 256 < word ws 0 → VerdictBy (sixWords ws) (some BadShape)
+earlier-check-refuses ws long = applies (λ s. omega (arith, s .terminals-high))
+
+-- Without a restart mark a cycle is clean as 01 says.
+pub clean-without-restart : {o c : ℕ} {ms : List Move} {s : Span}
+    → Clean o c 0 ms s ↔ (Cycle o c ms s × ((p : ℕ) → s .opened < p → p ≤ s .closed → Edited ms p → ⊥))
+clean-without-restart = (
+  λ y. (y .cycle, y .unedited),
+  λ y. record { cycle = y .0; unedited = y .1; no-restart = λ mark. absurd (omega arith) },
+)
+
+-- "A kept restart mark strictly between a and b makes a cycle unclean"; restarts at a and b, before and behind them do nothing.
+pub restart-makes-unclean : {o c m : ℕ} {ms : List Move} {s : Span} → 1 ≤ m
+    → Clean o c m ms s ↔ (Clean o c 0 ms s × ((p : ℕ) → s .opened < p → p < s .closed → Kept ms p m → ⊥))
+restart-makes-unclean mark = (
+  λ y. (record { cycle = y .cycle; unedited = y .unedited; no-restart = λ other. absurd (omega arith) }, y .no-restart mark),
+  λ y. record { cycle = y .0 .cycle; unedited = y .0 .unedited; no-restart = λ _. y .1 },
+)

@@ -169,7 +169,7 @@ cycle-as {o} {c} {s = s} f g y =
     }
 
 -- No place of a clean cycle is so, behind its opening mark: the token before it is that mark, which is kept, or has no edit either.
-clean-near : {o c p q : ℕ} {ts : List ℕ} {ms : List Move} {s : Span} → Walk p ts ms → Clean o c ms s → s .opened < q → q ≤ s .closed
+clean-near : {o c m p q : ℕ} {ts : List ℕ} {ms : List Move} {s : Span} → Walk p ts ms → Clean o c m ms s → s .opened < q → q ≤ s .closed
     → Near ms q → ⊥
 clean-near {q = q} w y a b (Near.edited d) = y .unedited q a b d
 clean-near {ms = ms} {s = s} w y a b (Near.behind {h = h} e (X, d)) =
@@ -183,17 +183,19 @@ clean-near {ms = ms} {s = s} w y a b (Near.behind {h = h} e (X, d)) =
 -- The same cycles are clean.
 module _ {R : Rules} {ms ns : List Move} (beside : Beside R ms ns) {p : ℕ} {ts : List ℕ} (walk : Walk p ts ms)
     (near : (q : ℕ) → Edited ns q → Near ms q) where
-  clean-as : (o c : ℕ) (s : Span) → Clean o c ms s ↔ Clean o c ns s
-  clean-as o c s = (
+  clean-as : (o c m : ℕ) (s : Span) → Clean o c m ms s ↔ Clean o c m ns s
+  clean-as o c m s = (
     λ y.
         record {
           cycle = cycle-as (λ p t k. kept-there beside k) (λ p t k. kept-here beside k) (y .cycle);
           unedited = λ q a b d. clean-near walk y a b (near q d);
+          no-restart = λ some q a b k. y .no-restart some q a b (kept-here beside k);
         },
     λ y.
         record {
           cycle = cycle-as (λ p t k. kept-here beside k) (λ p t k. kept-there beside k) (y .cycle);
           unedited = λ q a b d. y .unedited q a b (d .0, d .1, without-member (beside-records beside) (d .2));
+          no-restart = λ some q a b k. y .no-restart some q a b (kept-there beside k);
         },
   )
 

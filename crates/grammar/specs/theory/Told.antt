@@ -5,11 +5,11 @@ use mathlib.Core.List.{List, [], _∷_, List·Memᴰ, List·Memᴰ·head, List·
 use mathlib.Core.Option.{none}
 use native.Mathlib.Omega.{arith}
 use lib.ListN.{length}
-use Rattle.grammar.specs.Words.{opening, closing, tickUnit}
+use Rattle.grammar.specs.Words.{opening, closing, restartMark, tickUnit}
 use Rattle.grammar.specs.Moves.{Move}
 use Rattle.grammar.specs.Refusals.{Outcome, given}
 use Rattle.grammar.specs.Run.{RunOf, Settled, runConditions}
-use Rattle.grammar.specs.Pace.{Span, Clean, CleanCycles, totalMs, paceOf, reportOf, Reports, Reported}
+use Rattle.grammar.specs.Pace.{Span, Clean, CleanCycles, totalMs, paceOf, reportOf, Reports, Reported, ReportsBy}
 use Rattle.grammar.specs.declared.Pace.the-variants.{Idle}
 use Rattle.grammar.specs.declared.Report.{Report}
 use Rattle.grammar.specs.declared.Counts.{Counts}
@@ -22,13 +22,13 @@ pub record Told (ws log ticks : List ℕ) (editRoom ruleRoom : ℕ) (report : Re
   pub moves : List Move
   pub run : RunOf ws log editRoom ruleRoom moves none
   pub cycles : List Span
-  pub clean : CleanCycles (opening ws) (closing ws) moves cycles
+  pub clean : CleanCycles (opening ws) (closing ws) (restartMark ws) moves cycles
   pub made : report ≡ reportOf (tickUnit ws) ticks cycles
 
 told-by : {ws log ticks : List ℕ} {editRoom ruleRoom : ℕ} {o : Outcome (List Move)} {a : Outcome (Report × Counts)} {report : Report}
     {counts : Counts} → Settled (runConditions ws log (length ticks ≡ length log)) (RunOf ws log editRoom ruleRoom) o
     → Reports ws ticks o a → a ≡ given (report, counts) → Told ws log ticks editRoom ruleRoom report
-told-by (Settled.whole {ms = ms} l r) (Reports.paced {cs = cs} c) e =
+told-by (Settled.whole {ms = ms} l r) (ReportsBy.paced {cs = cs} c) e =
     record {
       admits = admitted l;
       moves = ms;
@@ -37,8 +37,8 @@ told-by (Settled.whole {ms = ms} l r) (Reports.paced {cs = cs} c) e =
       clean = c;
       made = sym (ap (λ (x : Report × Counts). x .0) (given-same e));
     }
-told-by (Settled.before l) Reports.unpaced e = absurd (given-refused e refl)
-told-by (Settled.within l r) Reports.unpaced e = absurd (given-refused e refl)
+told-by (Settled.before l) ReportsBy.unpaced e = absurd (given-refused e refl)
+told-by (Settled.within l r) ReportsBy.unpaced e = absurd (given-refused e refl)
 
 pub told : {ws log ticks : List ℕ} {editRoom ruleRoom : ℕ} {report : Report} {counts : Counts} {x y : List ℕ}
     → Reported ws log ticks editRoom ruleRoom (given (report, counts)) x y → Told ws log ticks editRoom ruleRoom report
@@ -83,12 +83,12 @@ module _ {ws log ticks : List ℕ} {editRoom ruleRoom : ℕ} {report : Report} (
   unfolding reportOf
   told-pace = ap (λ (r : Report). r .pace) (t .made)
 
-  told-idle : report .pace ≡ Idle → (s : Span) → Clean (opening ws) (closing ws) (t .moves) s → ⊥
+  told-idle : report .pace ≡ Idle → (s : Span) → Clean (opening ws) (closing ws) (restartMark ws) (t .moves) s → ⊥
   told-idle e s y =
       empty-none (t .cycles) (idle-count (length (t .cycles)) (totalMs (tickUnit ws) ticks (t .cycles)) (sym told-pace ∙ e)) s
       (t .clean .every s y)
 
-  idle-told : ((s : Span) → Clean (opening ws) (closing ws) (t .moves) s → ⊥) → report .pace ≡ Idle
+  idle-told : ((s : Span) → Clean (opening ws) (closing ws) (restartMark ws) (t .moves) s → ⊥) → report .pace ≡ Idle
   idle-told n =
       told-pace
       ∙ count-idle (length (t .cycles)) (totalMs (tickUnit ws) ticks (t .cycles))
@@ -99,12 +99,12 @@ module _ {ws log ticks : List ℕ} {editRoom ruleRoom : ℕ} {report : Report} (
   same-moves r = runs-determined (t .admits) (t .run) r .moves
 
   pub idle-no-cycle : {ms : List Move} → RunOf ws log editRoom ruleRoom ms none → report .pace ≡ Idle → (s : Span)
-      → Clean (opening ws) (closing ws) ms s → ⊥
-  idle-no-cycle r e s y = told-idle e s (subst (λ ms. Clean (opening ws) (closing ws) ms s) (sym (same-moves r)) y)
+      → Clean (opening ws) (closing ws) (restartMark ws) ms s → ⊥
+  idle-no-cycle r e s y = told-idle e s (subst (λ ms. Clean (opening ws) (closing ws) (restartMark ws) ms s) (sym (same-moves r)) y)
 
   pub no-cycle-idle : {ms : List Move} → RunOf ws log editRoom ruleRoom ms none
-      → ((s : Span) → Clean (opening ws) (closing ws) ms s → ⊥) → report .pace ≡ Idle
-  no-cycle-idle r n = idle-told (λ s y. n s (subst (λ ms. Clean (opening ws) (closing ws) ms s) (same-moves r) y))
+      → ((s : Span) → Clean (opening ws) (closing ws) (restartMark ws) ms s → ⊥) → report .pace ≡ Idle
+  no-cycle-idle r n = idle-told (λ s y. n s (subst (λ ms. Clean (opening ws) (closing ws) (restartMark ws) ms s) (same-moves r) y))
 
   -- Without a clean cycle there is no time.
   pub idle-no-time : report .pace ≡ Idle → (report .count ≡ 0) × (report .sum ≡ 0)

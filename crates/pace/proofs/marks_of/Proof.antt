@@ -10,8 +10,11 @@ opening-requires c κs = search needs
 closing-requires : tie.Need-closing-requires
 closing-requires c κs = search needs
 
+restart-requires : tie.Need-restart-requires
+restart-requires c κs = search needs
+
 returns : tie.Need-returns
-returns c = marks-same (c .before .opening .ensures) (c .closing .ensures)
+returns c = marks-same (c .before .before .opening .ensures) (c .before .closing .ensures) (c .restart .ensures)
 
 pub marks-of-spec : {M : Type 1} → statement M
-marks-of-spec = tie.close (tie.spec opening-requires closing-requires returns)
+marks-of-spec = tie.close (tie.spec opening-requires closing-requires restart-requires returns)
