@@ -1,10 +1,10 @@
 #!/usr/bin/env python3
-"""Makes `stdin` and `stdout` of this program, from document 01 alone: its own grammars, its own check.
+"""Makes `stdin` and `stdout` of this program, from documents 01 and 02 alone: its own grammars, its own check.
 
 Run it in this folder:  python3 expected.py
 It uses nothing of the Rattle code. src/main.rt says what a step of the input is and what is printed.
 Each named case has its answer written beside it; the check below, by the textbook's sets, must agree with every one. Those for request
-(v) of document 02 stand in chains.py.
+(v) of document 02 stand in chains.py, those for request (vi) in restarts.py.
 """
 import os
 import random
@@ -12,11 +12,12 @@ import sys
 
 sys.dont_write_bytecode = True
 import chains
+import restarts
 
 END, START = 0, 64
 
 
-# ---- The check of document 01
+# ---- The check of document 01, with request (vi) of 02
 
 def shaped(words):
     """The rules as (left, right side) and the costs, or None where the words break the shape."""
@@ -25,21 +26,26 @@ def shaped(words):
             raise IndexError
         return words[i]
     try:
-        t_count, n_count, p_count, opening, closing, unit = (word(i) for i in range(6))
+        first, n_count, p_count, opening, closing, unit = (word(i) for i in range(6))
+        seven = 257 <= first <= 320
+        t_count, header = (first - 256, 7) if seven else (first, 6)
         if not (1 <= t_count <= 64 and 1 <= n_count <= 64 and 1 <= p_count <= 256 and unit <= 1):
             return None
         marked = 1 <= opening < t_count and 1 <= closing < t_count
         if not (marked or (opening == 0 and closing == 0)):
             return None
+        restart = word(6) if seven else 0
+        if restart != 0 and (restart >= t_count or restart in (opening, closing)):
+            return None
         costs = []
         for t in range(t_count):
-            cost, reliability = word(6 + 2 * t), word(7 + 2 * t)
+            cost, reliability = word(header + 2 * t), word(header + 2 * t + 1)
             if t == END and (cost, reliability) != (0, 0):
                 return None
             if t != END and not (1 <= cost <= 1000 and reliability <= 60000):
                 return None
             costs.append(cost)
-        at, rules = 6 + 2 * t_count, []
+        at, rules = header + 2 * t_count, []
         for _ in range(p_count):
             left, size = word(at), word(at + 1)
             if left >= n_count or size > 8:
@@ -203,9 +209,11 @@ def named():
     yield words_of([(64, [1])] * 257), 5, 'P 257'
     yield put(one, 2, 0), 5, 'P 0'
     yield words_of([], p=0), 5, 'P 0 and no rule'
-    yield full, 0, 'the longest list: 2,694 words'
-    yield full + [0], 5, 'the longest list and a word behind it'
-    yield put(full, 2694 - 9, 9), 5, 'the longest list, its last rule 9 long'
+    yield full, 0, 'the longest list with a six-word header: 2,694 words'
+    yield restarts.longer(full, 63), 0, 'the longest list: 2,695 words'
+    yield restarts.longer(full, 63) + [0], 5, 'the longest list and a word behind it'
+    yield full + [0], 5, 'the longest list with a six-word header and a word behind it'
+    yield put(full, 2694 - 9, 9), 5, 'the longest list with a six-word header, its last rule 9 long'
     yield put(one, 3, 1), 5, 'an opening mark without a closing one'
     yield put(one, 4, 1), 5, 'a closing mark without an opening one'
     yield put(put(one, 3, 1), 4, 1), 0, 'equal marks'
@@ -274,15 +282,16 @@ def found(count):
 
 def main():
     here = os.path.dirname(os.path.abspath(__file__))
-    assert len(spread(256, 8)) == 2694
+    assert len(spread(256, 8)) == 2694 and len(restarts.longer(spread(256, 8), 63)) == 2695
     cases = []
     for words, told, name in named():
         assert answer(words) == told, (name, answer(words))
         cases.append((words, told))
     cases += list(found(20))
-    for words, told, name in chains.cases(words_of):
-        assert answer(words) == told, (name, answer(words))
-        cases.append((words, told))
+    for part in chains, restarts:
+        for words, told, name in part.cases(words_of):
+            assert answer(words) == told, (name, answer(words))
+            cases.append((words, told))
     held, steps, lines = [0] * 4096, [], []
     for number, (words, told) in enumerate(cases):
         for place, word in enumerate(words):

@@ -87,8 +87,8 @@ marksOf ws = record { opening = opening ws; closing = closing ws; restart = rest
 unfoldable pub passedBy : Marks → Here → ℕ → ℕ → Watch → Watch
 unfolding stepBy
 passedBy marks here token tick w =
-    stepBy (here .edited || eqb token (marks .restart)) (not (here .deleted) && eqb token (marks .closing)) (not (here .deleted) && eqb token (marks .opening))
-    tick w
+    stepBy (here .edited || eqb token (marks .restart)) (not (here .deleted) && eqb token (marks .closing))
+    (not (here .deleted) && eqb token (marks .opening)) tick w
 
 -- Few cycles so far: nothing overflows at one more.
 pub record Small (w : Watch) : Type 0 where

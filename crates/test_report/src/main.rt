@@ -1,5 +1,5 @@
-// Runs the pace report on the bench examples of document 01 that have a log, with their ticks, and on examples of equal marks,
-// tick unit 1, both marks 0 and a missing tick. It prints each answer; README.md says where the expected ones come from.
+// Runs the pace report on the bench examples of document 01 that have a log, with their ticks, on examples of equal marks,
+// tick unit 1, both marks 0 and a missing tick, and on those of request (vi). It prints each answer; README.md says where the expected ones come from.
 use grammar::Pace;
 use grammar::Report;
 use pace::Paced;
@@ -79,10 +79,59 @@ const THREE_TICKS: [u32; 12] = [
     1330,
 ];
 
+// Grammar H of request (vi): T 5, marks 1 and 3, restart mark 4, which is also what a log of it calls a restart.
+const RESTART: u16 = 4;
+
+const GRAMMAR_H: [u16; 42] = [
+    261,
+    3,
+    7,
+    1,
+    3,
+    0,
+    4,
+    0,
+    0,
+    20,
+    60,
+    3,
+    9,
+    4,
+    40,
+    1,
+    2,
+    0,
+    2,
+    65,
+    64,
+    0,
+    2,
+    4,
+    64,
+    0,
+    0,
+    1,
+    3,
+    1,
+    66,
+    3,
+    2,
+    2,
+    2,
+    66,
+    2,
+    2,
+    4,
+    66,
+    2,
+    0,
+];
+
 fn main() {
     cases();
     marks();
     units();
+    restarts();
 }
 
 // Cases 1 to 8. "Ticks not named are 0": case 2 has a cycle of 0 ms and is not idle. Case 5 has the listing's ticks.
@@ -168,6 +217,39 @@ fn units() {
         &log,
         &[100, 250, 400],
     );
+}
+
+// Request (vi): a kept restart mark inside a cycle makes it unclean; before, between and behind cycles it does nothing.
+fn restarts() {
+    let h = grammar_h(RESTART);
+    let log = [1u16, RESTART, 3];
+    let ticks = [100u32, 0, 30];
+    run(b"no restart", h, &[1, 2, 3], &[0, 10, 30]);
+    run(b"a restart inside", h, &log, &ticks);
+    run(b"restart mark 0", grammar_h(0), &log, &ticks);
+    run(
+        b"a restart between",
+        h,
+        &[1, 2, 3, RESTART, 1, 2, 3],
+        &[100, 110, 130, 0, 5, 10, 25],
+    );
+    run(
+        b"in the first of two",
+        h,
+        &[1, 2, RESTART, 2, 3, 1, 3],
+        &[900, 950, 0, 40, 60, 70, 95],
+    );
+    run(b"behind an edit", h, &[1, 1, RESTART, 3], &[5, 9, 0, 2]);
+    run(b"restart mark 2", grammar_h(2), &log, &[100, 200, 230]);
+    run(b"restart mark 1", grammar_h(1), &log, &ticks);
+    run(b"token 5", h, &[5], &[0]);
+}
+
+// Grammar H with this restart mark.
+fn grammar_h(restart: u16) -> [u16; 42] {
+    let mut words = GRAMMAR_H;
+    words[6] = restart;
+    words
 }
 
 // Grammar G with these marks, this tick unit and this reliability of done.
