@@ -1,4 +1,4 @@
-//! What an implementation of document 01, and of requests (i) to (iv) of document 02, answers, besides
+//! What an implementation of document 01, and of requests (i) to (iv) and (vi) of document 02, answers, besides
 //! the buffers it was lent.
 
 /// A refusal number: 1 to 12 of the table, 13 and 14 of request (i), 23 of request (iii), 15 of request (iv).

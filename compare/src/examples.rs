@@ -1,11 +1,12 @@
 //! The bench examples of document 01 and its further claims, with the records that request (ii) of
 //! document 02 leaves them, in [`empty_parts`] more examples of that request, in [`writing`] those of
-//! request (i), in [`cheapest`] those of request (iii), and in [`marks`] those of request (iv). The expected
-//! results are written by hand from the documents, never taken from a program.
+//! request (i), in [`cheapest`] those of request (iii), in [`marks`] those of request (iv), and in [`restarts`]
+//! those of request (vi). The expected results are written by hand from the documents, never taken from a program.
 
 pub mod cheapest;
 pub mod empty_parts;
 pub mod marks;
+pub mod restarts;
 pub mod writing;
 
 use crate::answer::{Pace, Prints};
@@ -85,17 +86,28 @@ fn refused(name: &'static str, draft: &Draft, tokens: &[u16], number: u16) -> Ex
 
 impl Example {
     /// The example with one clean cycle of `ms` in place of idle.
-    fn with_cycle(mut self, ticks: &[u32], ms: u64) -> Example {
+    fn with_cycle(self, ticks: &[u32], ms: u64) -> Example {
+        self.with_cycles(ticks, 1, ms)
+    }
+
+    /// The example with so many clean cycles, of `ms` together, in place of idle.
+    fn with_cycles(self, ticks: &[u32], cycles: u64, ms: u64) -> Example {
+        let mut example = self.timed(ticks);
+        let pace = format!("pace cycles {cycles} ms {ms}\n");
+        example.listing = example.listing.replace("pace idle\n", &pace);
+        example.mean = Some(ms as f64 / cycles as f64);
+        example
+    }
+
+    /// The example with these ticks.
+    fn timed(mut self, ticks: &[u32]) -> Example {
         self.ticks = ticks.to_vec();
-        let pace = format!("pace cycles 1 ms {ms}\n");
-        self.listing = self.listing.replace("pace idle\n", &pace);
-        self.mean = Some(ms as f64);
         self
     }
 }
 
-/// All examples: cases 1 to 12 in order, then the further claims, then those of request (ii). By it
-/// "cases 3, 4, 6, 7 and 12 lose their records for 67 and 64", and "move counts" stay.
+/// All examples: cases 1 to 12 in order, then the further claims, then those of request (ii), then those of request
+/// (vi). By (ii) "cases 3, 4, 6, 7 and 12 lose their records for 67 and 64", and "move counts" stay.
 pub fn all() -> Vec<Example> {
     let g = bench_g();
     let with_reliability_of_4 = |reliability| {
@@ -176,6 +188,7 @@ pub fn all() -> Vec<Example> {
         refused("cost-938", &eights(938), &[], 8),
     ];
     examples.extend(empty_parts::all());
+    examples.extend(restarts::all());
     examples
 }
 

@@ -1,4 +1,4 @@
-//! Seeded inputs for every part of document 01 and of requests (i) and (iii) to (v): grammars, logs, ticks,
+//! Seeded inputs for every part of document 01 and of requests (i) and (iii) to (vi): grammars, logs, ticks,
 //! grammar files, standard input, lists of words, texts and lent buffers. Equal seeds give equal inputs.
 
 pub mod buffers;
@@ -14,9 +14,11 @@ pub mod list;
 pub mod log;
 pub mod marks;
 pub mod random;
+pub mod restarts;
 pub mod text;
 pub mod ties;
 
 pub use draft::Draft;
 pub use input::{Input, Source};
 pub use random::Random;
+pub use restarts::Header;

@@ -1,4 +1,4 @@
-//! An implementation of document 01, and of requests (i) to (iv) of document 02, that shares nothing
+//! An implementation of document 01, and of requests (i) to (iv) and (vi) of document 02, that shares nothing
 //! with the proved one, and what is needed to compare implementations with each other.
 //!
 //! * [`answer`]: what every implementation answers, and the trait they share;
@@ -9,8 +9,9 @@
 //! * [`implementations`]: the list of those that are compared and measured;
 //! * [`generate`]: seeded inputs of every kind;
 //! * [`differ`]: runs one input on implementations and tells the first difference;
-//! * [`examples`]: the bench examples of document 01 and those of requests (i) to (iv), expected results
-//!   written by hand;
+//! * [`seven`]: what a run tells of the inputs with a seven-word header;
+//! * [`examples`]: the bench examples of document 01 and those of requests (i) to (iv) and (vi), expected
+//!   results written by hand;
 //! * [`telling`]: inputs shaped by hand, each to tell a wrong reading apart;
 //! * [`steps`]: the stored calls of the test programs;
 //! * [`stored`]: the plain implementation on all that the programs in the gate have stored.
@@ -24,6 +25,7 @@ pub mod library;
 #[cfg(feature = "linked")]
 pub mod linked;
 pub mod plain;
+pub mod seven;
 pub mod steps;
 pub mod stored;
 pub mod telling;

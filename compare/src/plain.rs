@@ -1,4 +1,4 @@
-//! The plain implementation of document 01 and of requests (i) to (iv) of document 02. It is meant to be
+//! The plain implementation of document 01 and of requests (i) to (iv) and (vi) of document 02. It is meant to be
 //! read beside the documents: sets are textbook fixpoints, the stack is inspected literally, and comments
 //! in quotes are the documents' own words. Nothing here is made for speed.
 

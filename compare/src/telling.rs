@@ -5,9 +5,10 @@
 
 pub mod desks;
 mod empties;
-mod grammars;
+pub mod grammars;
 pub mod lists;
 pub mod marks;
+pub mod restarts;
 pub mod texts;
 
 use crate::generate::families::bench_g;
@@ -105,6 +106,7 @@ pub fn parses() -> Vec<Call> {
         calls.push(Call::new(&ones(), &vec![1; tokens]).lent(0, 4_096));
     }
     calls.extend(empties::calls());
+    calls.extend(restarts::calls());
     calls
 }
 
@@ -117,6 +119,7 @@ pub fn reports() -> Vec<Call> {
     calls.extend(cycles());
     calls.extend(tick_counts());
     calls.extend(empties::reports());
+    calls.extend(restarts::reports());
     calls
 }
 
@@ -230,7 +233,7 @@ pub fn inputs() -> Vec<Vec<u8>> {
         put(&ones(), &vec![1; tokens]);
     }
     // Grammars of 8 to 11 blocks, the last block with one word and full; 2,694 words are the most that a
-    // grammar has.
+    // grammar with a header of six words has.
     for words in [
         1_772, 2_024, 2_025, 2_277, 2_278, 2_530, 2_531, 2_693, 2_694,
     ] {
@@ -269,6 +272,7 @@ pub fn inputs() -> Vec<Vec<u8>> {
             inputs.push(input);
         }
     }
+    inputs.extend(restarts::inputs());
     inputs
 }
 

@@ -11,7 +11,7 @@ use compare::answer::{
     MOST_WORDS,
 };
 use compare::generate::log::{self, Sampler};
-use compare::generate::{chains, families, file, grammar, Draft, Random};
+use compare::generate::{chains, families, file, grammar, restarts, Draft, Random};
 use compare::implementations::{self, PLAIN, TUNED};
 use std::hint::black_box;
 use std::time::Instant;
@@ -59,6 +59,7 @@ fn main() {
     // Draws of its own too.
     bench.marks(&mut Random::new(seed.rotate_left(32)));
     // And these.
+    bench.restarts(&mut Random::new(seed.rotate_left(48)));
     let mut random = Random::new(seed.rotate_left(16));
     bench.rounds(&mut random, &large);
     bench.lone_calls(&mut random, &large);
@@ -237,6 +238,24 @@ impl Bench {
             self.parse_row(&format!("parse {kind}"), draft, &logs);
             self.report_row(&format!("pace {kind}"), draft, &logs);
         }
+    }
+
+    /// Pace on correct logs of H, whose header has seven words, with restarts inside some cycles and between them;
+    /// the counter starts at zero at each.
+    fn restarts(&self, random: &mut Random) {
+        let h = families::bench_h();
+        let sampler = Sampler::new(&h);
+        let mut logs = Vec::new();
+        for _ in 0..LOGS {
+            let tokens = sampler.exact(random, 4_096);
+            let mut ticks = log::ticks(random, 4_096);
+            restarts::restarted(&mut ticks, &tokens, 4);
+            logs.push((tokens, ticks));
+        }
+        self.head(&format!(
+            "grammar H: {LOGS} logs of 4,096 tokens with restarts, ns a token"
+        ));
+        self.report_row("pace restarts", &h, &logs);
     }
 
     /// How the cost grows with the number of tokens.

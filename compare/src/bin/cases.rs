@@ -1,5 +1,5 @@
 //! Runs the twelve bench examples of document 01, its further claims and the examples of requests (i) to
-//! (iv) on every implementation, against results written by hand. Exits with 1 where one differs.
+//! (iv) and (vi) on every implementation, against results written by hand. Exits with 1 where one differs.
 
 use compare::examples::{self, cheapest, marks, writing};
 use compare::implementations;

@@ -2,14 +2,15 @@
 //! its two buffers.
 //!
 //! `desk_check SEED COUNT [FIRST]` runs grammars FIRST (0 if not given) to FIRST + COUNT - 1. At the first
-//! difference it prints a reproducer and exits with 1; it also exits with 1 when a refusal or a tie was never
-//! met. How far it is goes to standard error.
+//! difference it prints a reproducer and exits with 1; it also exits with 1 when a refusal, a tie or an accepted
+//! grammar with a restart mark was never met. How far it is goes to standard error.
 
 use compare::answer::Prints;
 use compare::differ::{outcome, Outcome};
 use compare::generate::{Input, Source};
 use compare::implementations::{self, PLAIN};
 use compare::plain::{self, Grammar, Sets};
+use compare::seven::Seven;
 use std::process::ExitCode;
 
 /// The refusals of the desk.
@@ -59,7 +60,7 @@ fn hold(all: &[Box<dyn Prints>], input: &Input, tally: &mut Tally) -> Result<(),
         return Err("no grammar for the desk".to_string());
     };
     let first = same(all, input)?;
-    tally.count(&first);
+    tally.count(input, &first);
     let accepted = match first.answer {
         Ok(_) => first,
         Err(23) => same(all, &again(words))?,
@@ -100,12 +101,14 @@ struct Tally {
     tied: u64,
     through: u64,
     high: u64,
+    seven: Seven,
 }
 
 impl Tally {
-    fn count(&mut self, outcome: &Outcome) {
+    fn count(&mut self, input: &Input, outcome: &Outcome) {
         let refusal = outcome.answer.as_ref().err().copied().unwrap_or(0);
         self.calls[usize::from(refusal)] += 1;
+        self.seven.count(input, outcome);
     }
 
     fn look_at(&mut self, words: &[u16], outcome: &Outcome) {
@@ -118,9 +121,10 @@ impl Tally {
         self.high += u64::from(outcome.buffers[1].iter().any(|&rule| rule > 127));
     }
 
-    /// Whether every refusal was met, and a tie.
+    /// Whether every refusal was met, a tie, and a restart mark.
     fn is_full(&self) -> bool {
-        REFUSALS.iter().all(|&number| self.calls[number] > 0) && self.tied > 0
+        let refused = REFUSALS.iter().all(|&number| self.calls[number] > 0);
+        refused && self.tied > 0 && self.seven.marked > 0
     }
 
     fn print(&self) {
@@ -133,6 +137,7 @@ impl Tally {
         println!("{:>16} {}", "with a tie", self.tied);
         println!("{:>16} {}", "through another", self.through);
         println!("{:>16} {}", "rules over 127", self.high);
+        self.seven.print(16, false);
     }
 }
 

@@ -1,4 +1,4 @@
-//! Writes the bench examples of document 01, its further claims and the examples of request (ii) into a
+//! Writes the bench examples of document 01, its further claims and the examples of requests (ii) and (vi) into a
 //! folder: for each the bytes of standard input (`NAME.in`) and the expected listing (`NAME.out`).
 
 use compare::examples;

@@ -2,10 +2,11 @@
 //!
 //! `steps.bin` holds the steps, as `compare::steps::desk` says, and `answers.txt` a line for each call. The
 //! examples of request (iii) come first, each in buffers around N words; then COUNT seeded calls; then those
-//! that are shaped to tell wrong readings apart; then a quarter as many grammars of request (v).
+//! that are shaped to tell wrong readings apart; then a quarter as many grammars of request (v), and as many seeded
+//! ones with the header of seven words.
 
 use compare::examples::cheapest;
-use compare::generate::{chains, Input, Random, Source};
+use compare::generate::{chains, Header, Input, Random, Source};
 use compare::steps::desk::{Desks, MOST_ROOM, MOST_WORDS};
 use compare::telling::desks;
 use std::path::PathBuf;
@@ -32,11 +33,13 @@ fn main() -> io::Result<()> {
         }
         last = example.words;
     }
-    seeded(&mut calls, &Source::new(seed), count);
+    let source = Source::new(seed);
+    seeded(&mut calls, &source, Header::Six, count);
     for (words, costs, rules) in desks::costs() {
         calls.costs(&words, costs, rules);
     }
     chained(&mut calls, seed, count / 4);
+    seeded(&mut calls, &source, Header::Seven, count / 4);
     let folder = PathBuf::from(folder);
     fs::create_dir_all(&folder)?;
     fs::write(folder.join("steps.bin"), &calls.bytes)?;
@@ -82,8 +85,8 @@ fn chained(calls: &mut Desks, seed: u64, count: u64) {
     }
 }
 
-/// So many calls of a source.
-fn seeded(calls: &mut Desks, source: &Source, count: u64) {
+/// So many calls of a source, with this header.
+fn seeded(calls: &mut Desks, source: &Source, header: Header, count: u64) {
     let mut taken = 0;
     for index in 0.. {
         if taken == count {
@@ -93,7 +96,7 @@ fn seeded(calls: &mut Desks, source: &Source, count: u64) {
             words,
             costs,
             rules,
-        } = source.unchained_desk(index)
+        } = source.unchained_desk(index, header)
         else {
             continue;
         };

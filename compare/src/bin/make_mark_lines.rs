@@ -3,13 +3,13 @@
 //!
 //! `inputs.bin` holds for each input its length as a u32, little endian, and its bytes; `expected.txt` holds the lines
 //! one behind the other. The printed examples of request (iv) come first, with what is written by hand; then COUNT
-//! seeded inputs, of which long ones are few; then those that are shaped to tell wrong readings apart. Exits with 1
-//! when some refusal is missing. Refusal 4 always is: the program lends as many words as eleven blocks hold.
+//! seeded inputs, of which long ones are few; then those that are shaped to tell wrong readings apart; then a quarter
+//! as many seeded ones with the header of seven words. Exits with 1 when some refusal is missing. Refusal 4 always is: the program lends as many words as eleven blocks hold.
 //!
 //! `make_mark_lines FOLDER` writes the first of these examples alone, as `print_marks.in` and `print_marks.out`.
 
 use compare::examples::marks::{printed, printed_case_5};
-use compare::generate::Source;
+use compare::generate::{Header, Source};
 use compare::{plain, telling};
 use std::path::PathBuf;
 use std::{env, fs, io, process};
@@ -38,10 +38,12 @@ fn main() -> io::Result<()> {
     for (input, lines) in printed() {
         stored.put(&input, lines);
     }
-    seeded(&mut stored, &Source::new(seed), count as usize);
+    let (source, count) = (Source::new(seed), count as usize);
+    seeded(&mut stored, &source, Header::Six, count);
     for input in telling::marks::inputs() {
         stored.put(&input, &plain::mark_lines(&input));
     }
+    seeded(&mut stored, &source, Header::Seven, count / 4);
     let folder = PathBuf::from(folder);
     fs::create_dir_all(&folder)?;
     fs::write(folder.join("inputs.bin"), &stored.inputs)?;
@@ -92,15 +94,15 @@ fn refusal(lines: &str) -> usize {
     number.map_or(0, |n| n.trim_end().parse().expect("a refusal number"))
 }
 
-/// So many inputs of a source.
-fn seeded(stored: &mut Stored, source: &Source, count: usize) {
+/// So many inputs of a source, with this header.
+fn seeded(stored: &mut Stored, source: &Source, header: Header, count: usize) {
     let mut taken = 0;
     let (mut given, mut long) = ([0; 16], [0; 16]);
     for index in 0.. {
         if taken == count {
             break;
         }
-        let input = source.mark_input(index);
+        let input = source.mark_input_with(index, header);
         let lines = plain::mark_lines(&input);
         let refusal = refusal(&lines);
         let is_long = input.len().max(lines.len()) > LONG;

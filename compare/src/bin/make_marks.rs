@@ -2,10 +2,11 @@
 //!
 //! `steps.bin` holds the steps, as `compare::steps::marks` says, and `answers.txt` a line for each call. The
 //! examples come first, each in edit, rule and token buffers of every length around what it needs; then COUNT seeded
-//! calls; then those that are shaped to tell wrong readings apart.
+//! calls; then those that are shaped to tell wrong readings apart; then a quarter as many seeded ones with the header
+//! of seven words.
 
 use compare::examples;
-use compare::generate::{Input, Source};
+use compare::generate::{Header, Input, Source};
 use compare::steps::marks::{fits, Marks};
 use compare::telling::marks;
 use std::path::PathBuf;
@@ -30,10 +31,12 @@ fn main() -> io::Result<()> {
             calls.marks(&example.words, &example.tokens, rooms);
         }
     }
-    seeded(&mut calls, &Source::new(seed), count);
+    let source = Source::new(seed);
+    seeded(&mut calls, &source, Header::Six, count);
     for (words, tokens, rooms) in marks::calls() {
         calls.marks(&words, &tokens, rooms);
     }
+    seeded(&mut calls, &source, Header::Seven, count / 4);
     let folder = PathBuf::from(folder);
     fs::create_dir_all(&folder)?;
     fs::write(folder.join("steps.bin"), &calls.bytes)?;
@@ -68,8 +71,8 @@ fn rooms(example: &examples::marks::Marks) -> Vec<[usize; 3]> {
     list
 }
 
-/// So many calls of a source.
-fn seeded(calls: &mut Marks, source: &Source, count: u64) {
+/// So many calls of a source, with this header.
+fn seeded(calls: &mut Marks, source: &Source, header: Header, count: u64) {
     let mut taken = 0;
     let mut given = [0; 16];
     for index in 0.. {
@@ -82,7 +85,7 @@ fn seeded(calls: &mut Marks, source: &Source, count: u64) {
             edits,
             rules,
             marks,
-        } = source.marks(index)
+        } = source.marks_with(index, header)
         else {
             continue;
         };

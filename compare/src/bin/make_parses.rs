@@ -3,9 +3,10 @@
 //!
 //! `steps.bin` holds the steps, as `compare::steps` says, and `answers.txt` a line for each parse.
 //! The bench examples come first, each in buffers of every length up to what it needs and a little
-//! more; then COUNT seeded calls; then those that are shaped to tell wrong readings apart.
+//! more; then COUNT seeded calls; then those that are shaped to tell wrong readings apart; then a quarter as many
+//! seeded ones with the header of seven words.
 
-use compare::generate::{Input, Source};
+use compare::generate::{Header, Input, Source};
 use compare::steps::{Steps, MOST_ROOM};
 use compare::{examples, telling};
 use std::path::PathBuf;
@@ -37,29 +38,11 @@ fn main() -> io::Result<()> {
         }
     }
     let source = Source::new(seed);
-    let mut taken = 0;
-    for index in 0.. {
-        if taken == count {
-            break;
-        }
-        let Input::Parse {
-            words,
-            tokens,
-            edits,
-            rules,
-        } = source.unchained(index)
-        else {
-            continue;
-        };
-        let small = words.len() <= MOST_WORDS && tokens.len() <= MOST_TOKENS;
-        if small && edits.len() <= MOST_ROOM && rules.len() <= MOST_ROOM {
-            steps.parse(&words, &tokens, edits.len(), rules.len());
-            taken += 1;
-        }
-    }
+    seeded(&mut steps, &source, Header::Six, count);
     for call in telling::parses() {
         steps.parse(&call.words, &call.tokens, call.edit_room, call.rule_room);
     }
+    seeded(&mut steps, &source, Header::Seven, count / 4);
     let folder = PathBuf::from(folder);
     fs::create_dir_all(&folder)?;
     fs::write(folder.join("steps.bin"), &steps.bytes)?;
@@ -70,4 +53,28 @@ fn main() -> io::Result<()> {
         steps.answers.lines().count()
     );
     Ok(())
+}
+
+/// So many calls of a source, with this header.
+fn seeded(steps: &mut Steps, source: &Source, header: Header, count: u64) {
+    let mut taken = 0;
+    for index in 0.. {
+        if taken == count {
+            break;
+        }
+        let Input::Parse {
+            words,
+            tokens,
+            edits,
+            rules,
+        } = source.unchained(index, header)
+        else {
+            continue;
+        };
+        let small = words.len() <= MOST_WORDS && tokens.len() <= MOST_TOKENS;
+        if small && edits.len() <= MOST_ROOM && rules.len() <= MOST_ROOM {
+            steps.parse(&words, &tokens, edits.len(), rules.len());
+            taken += 1;
+        }
+    }
 }

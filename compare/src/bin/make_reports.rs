@@ -3,9 +3,10 @@
 //!
 //! `steps.bin` holds the steps, as `compare::steps` says, and `answers.txt` a line for each report.
 //! The bench examples come first, each in buffers of lengths around what it needs; then COUNT
-//! seeded calls; then those that are shaped to tell wrong readings apart.
+//! seeded calls; then those that are shaped to tell wrong readings apart; then a quarter as many seeded ones with the
+//! header of seven words.
 
-use compare::generate::{Input, Source};
+use compare::generate::{Header, Input, Source};
 use compare::steps::{Steps, MOST_ROOM};
 use compare::{examples, telling};
 use std::path::PathBuf;
@@ -38,6 +39,26 @@ fn main() -> io::Result<()> {
         }
     }
     let source = Source::new(seed);
+    seeded(&mut steps, &source, Header::Six, count);
+    for call in telling::reports() {
+        let (words, tokens, ticks) = (&call.words, &call.tokens, &call.ticks);
+        steps.report(words, tokens, ticks, call.edit_room, call.rule_room);
+    }
+    seeded(&mut steps, &source, Header::Seven, count / 4);
+    let folder = PathBuf::from(folder);
+    fs::create_dir_all(&folder)?;
+    fs::write(folder.join("steps.bin"), &steps.bytes)?;
+    fs::write(folder.join("answers.txt"), &steps.answers)?;
+    println!(
+        "{} bytes of steps, {} reports",
+        steps.bytes.len(),
+        steps.answers.lines().count()
+    );
+    Ok(())
+}
+
+/// So many calls of a source, with this header.
+fn seeded(steps: &mut Steps, source: &Source, header: Header, count: u64) {
     let mut taken = 0;
     for index in 0.. {
         if taken == count {
@@ -49,7 +70,7 @@ fn main() -> io::Result<()> {
             ticks,
             edits,
             rules,
-        } = source.unchained(index)
+        } = source.unchained(index, header)
         else {
             continue;
         };
@@ -59,18 +80,4 @@ fn main() -> io::Result<()> {
             taken += 1;
         }
     }
-    for call in telling::reports() {
-        let (words, tokens, ticks) = (&call.words, &call.tokens, &call.ticks);
-        steps.report(words, tokens, ticks, call.edit_room, call.rule_room);
-    }
-    let folder = PathBuf::from(folder);
-    fs::create_dir_all(&folder)?;
-    fs::write(folder.join("steps.bin"), &steps.bytes)?;
-    fs::write(folder.join("answers.txt"), &steps.answers)?;
-    println!(
-        "{} bytes of steps, {} reports",
-        steps.bytes.len(),
-        steps.answers.lines().count()
-    );
-    Ok(())
 }

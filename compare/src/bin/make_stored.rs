@@ -4,10 +4,10 @@
 //! `inputs.bin` holds for each input its length as a u32, little endian, and its bytes;
 //! `expected.txt` holds the listings one behind the other. COUNT seeded inputs come first; long
 //! ones are few, so that the files stay small. Behind them stand those that are shaped to tell wrong
-//! readings apart. Exits with 1 when some refusal is missing. Refusal 4 always is: the program
-//! lends as many words as eleven blocks hold.
+//! readings apart, and a sixteenth as many seeded ones with the header of seven words. Exits with 1 when some
+//! refusal is missing. Refusal 4 always is: the program lends as many words as eleven blocks hold.
 
-use compare::generate::Source;
+use compare::generate::{Header, Source};
 use compare::{plain, telling};
 use std::path::PathBuf;
 use std::{env, fs, io, process};
@@ -27,50 +27,72 @@ fn main() -> io::Result<()> {
     };
     let count = count as usize;
     let source = Source::new(seed);
-    let (mut inputs, mut expected) = (Vec::new(), String::new());
+    let mut stored = Stored::default();
+    seeded(&mut stored, &source, Header::Six, count);
+    for input in telling::inputs() {
+        stored.put(&input, &plain::listing(&input));
+    }
+    seeded(&mut stored, &source, Header::Seven, count / 16);
+    let folder = PathBuf::from(folder);
+    fs::create_dir_all(&folder)?;
+    fs::write(folder.join("inputs.bin"), &stored.inputs)?;
+    fs::write(folder.join("expected.txt"), &stored.expected)?;
+    println!(
+        "{} inputs, {} and {} bytes",
+        stored.given.iter().sum::<usize>(),
+        stored.inputs.len(),
+        stored.expected.len()
+    );
+    println!("{:>12} {}", "not refused", stored.given[0]);
+    for (number, count) in stored.given.iter().enumerate().skip(1) {
+        println!("{:>12} {count}", format!("refused {number}"));
+    }
+    let missing = (1..13).any(|number| number != 4 && stored.given[number] == 0);
+    process::exit(i32::from(missing));
+}
+
+/// The two files, and how many inputs gave each refusal; place 0 counts those not refused.
+#[derive(Default)]
+struct Stored {
+    inputs: Vec<u8>,
+    expected: String,
+    given: [usize; 13],
+}
+
+impl Stored {
+    fn put(&mut self, input: &[u8], listing: &str) {
+        self.inputs.extend((input.len() as u32).to_le_bytes());
+        self.inputs.extend(input);
+        self.expected.push_str(listing);
+        self.given[refusal(listing)] += 1;
+    }
+}
+
+/// The refusal that was printed, or 0.
+fn refusal(listing: &str) -> usize {
+    let number = listing.strip_prefix("refused ");
+    number.map_or(0, |n| n.trim_end().parse().expect("a refusal number"))
+}
+
+/// So many inputs of a source, with this header.
+fn seeded(stored: &mut Stored, source: &Source, header: Header, count: usize) {
     let mut taken = 0;
-    // How many gave each refusal, and how many of these are long; place 0 counts those not
-    // refused.
+    // How many gave each refusal, and how many of these are long.
     let (mut given, mut long) = ([0; 13], [0; 13]);
     for index in 0.. {
         if taken == count {
             break;
         }
-        let input = source.standard_input(index);
+        let input = source.standard_input(index, header);
         let listing = plain::listing(&input);
-        let refusal = listing.strip_prefix("refused ").map_or(0, |number| {
-            number.trim_end().parse().expect("a refusal number")
-        });
+        let refusal = refusal(&listing);
         let is_long = input.len() > LONG;
         if is_long && long[refusal] == LONG_ONES || refusal > 0 && given[refusal] > count / SHARE {
             continue;
         }
-        inputs.extend((input.len() as u32).to_le_bytes());
-        inputs.extend(input);
-        expected.push_str(&listing);
+        stored.put(&input, &listing);
         taken += 1;
         long[refusal] += usize::from(is_long);
         given[refusal] += 1;
     }
-    for input in telling::inputs() {
-        expected.push_str(&plain::listing(&input));
-        inputs.extend((input.len() as u32).to_le_bytes());
-        inputs.extend(input);
-        taken += 1;
-    }
-    let folder = PathBuf::from(folder);
-    fs::create_dir_all(&folder)?;
-    fs::write(folder.join("inputs.bin"), &inputs)?;
-    fs::write(folder.join("expected.txt"), &expected)?;
-    println!(
-        "{taken} inputs, {} and {} bytes",
-        inputs.len(),
-        expected.len()
-    );
-    println!("{:>12} {}", "not refused", given[0]);
-    for (number, count) in given.iter().enumerate().skip(1) {
-        println!("{:>12} {count}", format!("refused {number}"));
-    }
-    let missing = (1..13).any(|number| number != 4 && given[number] == 0);
-    process::exit(i32::from(missing));
 }

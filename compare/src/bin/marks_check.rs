@@ -2,13 +2,14 @@
 //! and on every tenth a standard input of `print_marks` and its lines, where an implementation has that program.
 //!
 //! `marks_check SEED COUNT [FIRST]` runs logs FIRST (0 if not given) to FIRST + COUNT - 1. At the first difference it
-//! prints a reproducer and exits with 1; it also exits with 1 when refusal 15 or the string of a nonterminal was never
-//! met. How far it is goes to standard error.
+//! prints a reproducer and exits with 1; it also exits with 1 when refusal 15, the string of a nonterminal or an
+//! accepted grammar with a restart mark was never met. How far it is goes to standard error.
 
 use compare::answer::Prints;
 use compare::differ::{outcome, Outcome};
 use compare::generate::{marks, Input, Source};
 use compare::implementations::{self, PLAIN};
+use compare::seven::Seven;
 use std::process::ExitCode;
 
 /// The refusals that a call can meet; the lines meet 1 to 3 too.
@@ -69,7 +70,7 @@ fn hold(all: &[Box<dyn Prints>], input: &Input, tally: &mut Tally) -> Result<(),
         return Err("no log for request (iv)".to_string());
     };
     let first = same(all, input)?;
-    tally.count(&first);
+    tally.count(input, &first);
     let given = match first.answer {
         Err(12 | 15) => same(all, &again(words, tokens))?,
         _ => first,
@@ -94,6 +95,7 @@ fn again(words: &[u16], tokens: &[u16]) -> Input {
 fn hold_lines(all: &[Box<dyn Prints>], input: &Input, tally: &mut Tally) -> Result<(), String> {
     let given = same(all, input)?;
     tally.lines[usize::from(given.answer.is_err())] += 1;
+    tally.seven.count(input, &given);
     Ok(())
 }
 
@@ -123,12 +125,15 @@ struct Tally {
     longest: u64,
     /// Inputs of `print_marks` that were not refused, and those that were.
     lines: [u64; 2],
+    /// Of both.
+    seven: Seven,
 }
 
 impl Tally {
-    fn count(&mut self, outcome: &Outcome) {
+    fn count(&mut self, input: &Input, outcome: &Outcome) {
         let refusal = outcome.answer.as_ref().err().copied().unwrap_or(0);
         self.calls[usize::from(refusal)] += 1;
+        self.seven.count(input, outcome);
     }
 
     fn look_at(&mut self, outcome: &Outcome) {
@@ -143,9 +148,9 @@ impl Tally {
         self.longest = self.longest.max(numbers[3]);
     }
 
-    /// Whether refusal 15 was met, and the string of a nonterminal.
+    /// Whether refusal 15 was met, the string of a nonterminal, and a restart mark.
     fn is_full(&self) -> bool {
-        self.calls[15] > 0 && self.strings > 0
+        self.calls[15] > 0 && self.strings > 0 && self.seven.marked > 0
     }
 
     fn print(&self) {
@@ -160,5 +165,6 @@ impl Tally {
         println!("{:>16} {}", "longest result", self.longest);
         println!("{:>16} {}", "printed", self.lines[0]);
         println!("{:>16} {}", "printed refused", self.lines[1]);
+        self.seven.print(16, false);
     }
 }

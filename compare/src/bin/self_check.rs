@@ -2,11 +2,13 @@
 //!
 //! `self_check SEED COUNT [FIRST]` runs inputs FIRST (0 if not given) to FIRST + COUNT - 1.
 //! At the first difference it prints a reproducer and exits with 1; it also exits with 1 when
-//! some refusal was never met. How far it is goes to standard error.
+//! some refusal was never met, or no report in which a restart mark made a cycle unclean. How far it is goes to
+//! standard error.
 
 use compare::differ::{outcome, Outcome};
 use compare::generate::{Input, Source};
 use compare::implementations::{self, PLAIN};
+use compare::seven::Seven;
 use std::process::ExitCode;
 
 fn main() -> ExitCode {
@@ -41,7 +43,7 @@ fn main() -> ExitCode {
     }
     tally.print(seed, first, count);
     // A short run may miss one; it shall not pass for a full one.
-    ExitCode::from(u8::from(tally.refused[1..].contains(&0)))
+    ExitCode::from(u8::from(!tally.is_full()))
 }
 
 /// Prints everything that is needed to run the input again.
@@ -60,6 +62,7 @@ struct Tally {
     edited: u64,
     /// Reads, checks, parses, reports, listings.
     kinds: [u64; 5],
+    seven: Seven,
 }
 
 impl Tally {
@@ -80,6 +83,12 @@ impl Tally {
             Err(number) => self.refused[usize::from(number)] += 1,
         }
         self.edited += u64::from(outcome.has_edits(input));
+        self.seven.count(input, outcome);
+    }
+
+    /// Whether every refusal was met, and a cycle that a restart mark made unclean.
+    fn is_full(&self) -> bool {
+        !self.refused[1..].contains(&0) && self.seven.unclean > 0
     }
 
     fn print(&self, seed: u64, first: u64, count: u64) {
@@ -100,5 +109,6 @@ impl Tally {
                 self.refused[number]
             );
         }
+        self.seven.print(12, true);
     }
 }

@@ -2,7 +2,7 @@
 //! hand.
 
 use crate::answer::{Implementation, Refusal};
-use crate::generate::families::bench_g;
+use crate::generate::families::{bench_g, bench_h};
 use crate::generate::Draft;
 
 /// A grammar, the lengths of the two buffers, and what is expected of the desk.
@@ -99,6 +99,8 @@ pub fn all() -> Vec<Cheapest> {
     for rooms in [(0, 0), (0, 64), (64, 0), (1, 1), (64, 64)] {
         examples.push(refused("shared", &shared(), rooms, 9));
     }
+    // 65 is a 1 and a 3, 20 + 4.
+    examples.push(given("H", &bench_h(), &[0, 24, 0], &[2, 3, 6]));
     examples
 }
 

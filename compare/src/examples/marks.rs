@@ -9,7 +9,7 @@ use super::cheapest::eights;
 use super::empty_parts::reliable;
 use super::{DELETE, INSERT};
 use crate::answer::{Marked, Parsed, Prints, Refusal};
-use crate::generate::families::bench_g;
+use crate::generate::families::{bench_g, bench_h};
 use crate::generate::Draft;
 
 /// A log, the lengths of the three buffers, and what is expected.
@@ -191,6 +191,8 @@ pub fn all() -> Vec<Marks> {
         refused("case 3, 2 edit words", &g, &[1, 2, 4], (2, 0), 12),
         refused("case 3, 3 words", &g, &[1, 2, 4], (900, 3), 15),
         refused("a token 7", &g, &[1, 7], (0, 0), 10),
+        restarted(),
+        refused("H, a token 5", &bench_h(), &[1, 5], (0, 0), 10),
     ]);
     examples
 }
@@ -204,6 +206,18 @@ fn case_5() -> Marks {
         (15, &[0, 2, 0, 2, 3]),
         &[[INSERT, 1, 66], [INSERT, 1, 4]],
         &[1, 2, 3, 4, 1, 2, 3, 4],
+    )
+}
+
+/// H of request (vi): 66 is dropped and a 3 is missing before place 1. A restart is a mark like any other.
+fn restarted() -> Marks {
+    given(
+        "H",
+        &bench_h(),
+        &[1, 1, 4, 3],
+        (14, &[0, 3, 0, 3, 5]),
+        &[[INSERT, 1, 3]],
+        &[1, 3, 1, 4, 3],
     )
 }
 

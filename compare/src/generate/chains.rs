@@ -86,6 +86,7 @@ pub fn mixed(random: &mut Random, draft: &Draft) -> (Draft, Vec<u16>) {
         mixed.terminals[usize::from(tokens[token])] = weights;
     }
     (mixed.opening, mixed.closing) = (new(draft.opening), new(draft.closing));
+    mixed.restart = draft.restart.map(new);
     let symbols = mixed.rules.iter_mut().flat_map(|(_, right)| right);
     for symbol in symbols.filter(|symbol| **symbol < 64) {
         *symbol = new(*symbol);

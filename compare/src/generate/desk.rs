@@ -2,26 +2,29 @@
 
 use super::input::{Input, Source};
 use super::random::Random;
+use super::restarts::{self, Header};
 use super::{buffers, chains, edges, grammar, ties};
 
 impl Source {
     /// Grammar words number `index` and two buffers for the desk, full of old content; they do not depend
     /// on those before them. One in five is a grammar of [`chains`].
     pub fn desk(&self, index: u64) -> Input {
+        let header = self.header(index);
         let mut random = Random::at(self.seed().rotate_left(24), index);
         if random.chance(1, 5) {
-            let words = chains::any(&mut random).words();
-            self.lent(&mut random, words)
+            let mut draft = chains::any(&mut random);
+            header.put(&mut random, &mut draft);
+            self.lent(&mut random, draft.words())
         } else {
-            self.unchained_desk(index)
+            self.unchained_desk(index, header)
         }
     }
 
-    /// The same without those grammars, which the stored calls have by themselves.
-    pub fn unchained_desk(&self, index: u64) -> Input {
+    /// The same with this header and without those grammars, which the stored calls have by themselves.
+    pub fn unchained_desk(&self, index: u64, header: Header) -> Input {
         // Away from the inputs and the lists of the same number.
         let mut random = Random::at(self.seed().rotate_left(16), index);
-        let words = self.desk_words(&mut random);
+        let words = self.desk_words(&mut random, header);
         self.lent(&mut random, words)
     }
 
@@ -37,9 +40,9 @@ impl Source {
     }
 
     /// What the check is tried on, or a grammar with ties, perhaps changed at some edge.
-    fn desk_words(&self, random: &mut Random) -> Vec<u16> {
+    fn desk_words(&self, random: &mut Random, header: Header) -> Vec<u16> {
         let mut draft = match random.below(12) {
-            0..=2 => return self.words(random),
+            0..=2 => return self.words(random, header),
             3..=5 => {
                 let mut draft = self.stock()[random.below(self.stock().len())].clone();
                 ties::even(random, &mut draft);
@@ -55,8 +58,12 @@ impl Source {
                 draft
             }
         };
+        header.put(random, &mut draft);
         if random.chance(1, 8) {
             edges::change(random, &mut draft);
+        }
+        if header == Header::Seven && random.chance(1, 8) {
+            restarts::change(random, &mut draft);
         }
         draft.words()
     }

@@ -1,4 +1,4 @@
-//! Families of grammars that are known by heart: bench grammar G, nested brackets, chains,
+//! Families of grammars that are known by heart: bench grammar G, H with restarts, nested brackets, chains,
 //! and costs around 60,000.
 
 use super::draft::Draft;
@@ -18,6 +18,25 @@ pub fn bench_g() -> Draft {
     let mut draft = Draft::new(7, 4, &rules);
     draft.terminals = vec![(0, 0), (20, 60), (3, 9), (5, 15), (4, 40), (3, 2), (3, 2)];
     (draft.opening, draft.closing) = (1, 4);
+    draft
+}
+
+/// Grammar H of request (vi): any number of cycles, a 1, any number of 2 and of restarts, which are 4, and a 3; and
+/// restarts between the cycles.
+pub fn bench_h() -> Draft {
+    let rules: [(u16, &[u16]); 7] = [
+        (0, &[65, 64]),
+        (0, &[4, 64]),
+        (0, &[]),
+        (1, &[1, 66, 3]),
+        (2, &[2, 66]),
+        (2, &[4, 66]),
+        (2, &[]),
+    ];
+    let mut draft = Draft::new(5, 3, &rules);
+    draft.terminals = vec![(0, 0), (20, 60), (3, 9), (4, 40), (1, 2)];
+    (draft.opening, draft.closing) = (1, 3);
+    draft.restart = Some(4);
     draft
 }
 

@@ -3,6 +3,7 @@
 use super::draft::Draft;
 use super::log::{self, Sampler};
 use super::random::Random;
+use super::restarts::{self, Header};
 use super::{buffers, chains, edges, families, file, grammar};
 use crate::plain;
 
@@ -82,22 +83,29 @@ impl Source {
         &self.stock
     }
 
+    /// The header of input, grammar or log number `index`: seven words for one in four.
+    pub(super) fn header(&self, index: u64) -> Header {
+        Header::any(&mut Random::at(self.seed.rotate_left(8), index))
+    }
+
     /// Input number `index`; it does not depend on the inputs before it. One in five has a grammar of
     /// [`chains`]. Lists to be written, grammars for the desk and logs in marks alone are no such inputs:
     /// [`Source::write`], [`Source::desk`] and [`Source::marks`] have them, so that the others stay what they
     /// are.
     pub fn input(&self, index: u64) -> Input {
+        let header = self.header(index);
         let mut random = Random::at(self.seed.rotate_left(56), index);
         if random.chance(1, 5) {
-            self.chained(&mut random)
+            self.chained(&mut random, header)
         } else {
-            self.unchained(index)
+            self.unchained(index, header)
         }
     }
 
     /// A check, a parse or a report for a grammar of [`chains`], some of them changed at some edge.
-    fn chained(&self, random: &mut Random) -> Input {
+    fn chained(&self, random: &mut Random, header: Header) -> Input {
         let mut draft = chains::any(random);
+        header.put(random, &mut draft);
         if random.chance(1, 10) {
             edges::change(random, &mut draft);
         }
@@ -108,7 +116,7 @@ impl Source {
         let tokens = self.log(random, &draft, plain::check(&words).is_ok());
         let (edits, rules) = lend(random, &words, &tokens);
         if random.chance(1, 2) {
-            let ticks = log::ticks(random, tokens.len());
+            let ticks = restarts::ticks(random, &words, &tokens);
             return Input::Report {
                 words,
                 tokens,
@@ -125,17 +133,18 @@ impl Source {
         }
     }
 
-    /// Input number `index` without those grammars, which the stored calls have by themselves.
-    pub fn unchained(&self, index: u64) -> Input {
+    /// Input number `index` with this header and without those grammars, which the stored calls have by
+    /// themselves.
+    pub fn unchained(&self, index: u64, header: Header) -> Input {
         let mut random = Random::at(self.seed, index);
         let random = &mut random;
         match random.below(20) {
-            0..=2 => self.read(random),
+            0..=2 => self.read(random, header),
             3..=6 => Input::Check {
-                words: self.words(random),
+                words: self.words(random, header),
             },
             7..=12 => {
-                let (words, tokens) = self.words_and_log(random);
+                let (words, tokens) = self.words_and_log(random, header);
                 let (edits, rules) = lend(random, &words, &tokens);
                 Input::Parse {
                     words,
@@ -145,9 +154,9 @@ impl Source {
                 }
             }
             13..=17 => {
-                let (words, tokens) = self.words_and_log(random);
+                let (words, tokens) = self.words_and_log(random, header);
                 let (edits, rules) = lend(random, &words, &tokens);
-                let mut ticks = log::ticks(random, tokens.len());
+                let mut ticks = restarts::ticks(random, &words, &tokens);
                 if random.chance(1, 25) {
                     let more = tokens.len() + 1;
                     ticks.resize(random.pick(&[more, more.max(2) - 2, 0, more * 2]), 7);
@@ -161,18 +170,28 @@ impl Source {
                 }
             }
             _ => Input::Listing {
-                input: self.listing(random),
+                input: self.listing(random, header),
             },
         }
     }
 
     /// Standard input number `index` of the printing program.
-    pub fn standard_input(&self, index: u64) -> Vec<u8> {
-        self.listing(&mut Random::at(self.seed, index))
+    pub fn standard_input(&self, index: u64, header: Header) -> Vec<u8> {
+        self.listing(&mut Random::at(self.seed, index), header)
+    }
+
+    /// A grammar as below; where the header has seven words, half of them are made for restarts.
+    fn draft(&self, random: &mut Random, header: Header) -> Draft {
+        if header == Header::Seven && random.chance(1, 2) {
+            return restarts::draft(random);
+        }
+        let mut draft = self.any_draft(random);
+        header.put(random, &mut draft);
+        draft
     }
 
     /// An accepted grammar, a well-known family, or one without a plan.
-    fn draft(&self, random: &mut Random) -> Draft {
+    fn any_draft(&self, random: &mut Random) -> Draft {
         match random.below(20) {
             0 => families::bench_g(),
             1 => families::nest(random),
@@ -187,37 +206,55 @@ impl Source {
         }
     }
 
-    /// Grammar words for the check: half of them changed at some edge, once or twice.
-    pub(super) fn words(&self, random: &mut Random) -> Vec<u16> {
-        let mut draft = self.draft(random);
+    /// Grammar words for the check: half of them changed at some edge, once or twice. Of a header of seven words the
+    /// last one and word 0 are changed, too.
+    pub(super) fn words(&self, random: &mut Random, header: Header) -> Vec<u16> {
+        let mut draft = self.draft(random, header);
         if random.chance(3, 5) {
             edges::change(random, &mut draft);
             if random.chance(1, 4) && !draft.rules.is_empty() && !draft.terminals.is_empty() {
                 edges::change(random, &mut draft);
             }
         }
+        if header == Header::Seven && random.chance(1, 4) {
+            restarts::change(random, &mut draft);
+        }
         let mut words = draft.words();
         if random.chance(1, 8) {
             edges::change_words(random, &mut words);
+        }
+        if header == Header::Seven && random.chance(1, 4) {
+            restarts::change_words(random, &mut words);
         }
         words
     }
 
     /// Grammar words, mostly accepted ones, and a log for them.
-    pub(super) fn words_and_log(&self, random: &mut Random) -> (Vec<u16>, Vec<u16>) {
+    pub(super) fn words_and_log(
+        &self,
+        random: &mut Random,
+        header: Header,
+    ) -> (Vec<u16>, Vec<u16>) {
         if random.chance(1, 12) {
-            let words = self.words(random);
-            let t = words.first().map_or(2, |&t| t.clamp(2, 64));
+            let words = self.words(random, header);
+            let t = match header {
+                Header::Six => words.first().map_or(2, |&t| t.clamp(2, 64)),
+                Header::Seven => restarts::t_of(&words),
+            };
             let count = random.below(12);
             return (words, log::noise(random, t, count));
         }
         if random.chance(1, 15) {
-            let draft = families::nest(random);
+            let mut draft = families::nest(random);
+            header.put(random, &mut draft);
             return (draft.words(), deep_log(random, &draft));
         }
-        let draft = self.draft(random);
+        let draft = self.draft(random, header);
         let words = draft.words();
-        let tokens = self.log(random, &draft, plain::check(&words).is_ok());
+        let mut tokens = self.log(random, &draft, plain::check(&words).is_ok());
+        if header == Header::Seven {
+            restarts::out_of_range(random, &mut tokens, draft.t());
+        }
         (words, tokens)
     }
 
@@ -265,8 +302,8 @@ impl Source {
     }
 
     /// A file, good or damaged once or twice, and a word buffer around its length.
-    fn read(&self, random: &mut Random) -> Input {
-        let words = self.file_words(random);
+    fn read(&self, random: &mut Random, header: Header) -> Input {
+        let words = self.file_words(random, header);
         let mut file = file::file_of(&words);
         for _ in 0..random.pick(&[0, 0, 1, 1, 1, 2]) {
             file::damage(random, &mut file);
@@ -279,9 +316,9 @@ impl Source {
     }
 
     /// Words to stand in a file: grammar words, or any words in number around block edges.
-    fn file_words(&self, random: &mut Random) -> Vec<u16> {
+    fn file_words(&self, random: &mut Random, header: Header) -> Vec<u16> {
         if random.chance(1, 2) {
-            let words = self.words(random);
+            let words = self.words(random, header);
             if (1..=2_783).contains(&words.len()) {
                 return words;
             }
@@ -298,14 +335,15 @@ impl Source {
     }
 
     /// Standard input of the printing program, whole or damaged.
-    fn listing(&self, random: &mut Random) -> Vec<u8> {
+    fn listing(&self, random: &mut Random, header: Header) -> Vec<u8> {
         let (words, tokens) = if random.chance(1, 30) {
             // Rules or edits that outrun what the program lends.
-            let draft = families::chain(random);
+            let mut draft = families::chain(random);
+            header.put(random, &mut draft);
             let t = draft.t();
             (draft.words(), log::noise(random, t, 4_096))
         } else {
-            self.words_and_log(random)
+            self.words_and_log(random, header)
         };
         self.as_input(random, words, tokens)
     }
@@ -320,7 +358,7 @@ impl Source {
         if words.is_empty() || words.len() > 2_783 {
             words = vec![1, 1, 1, 0, 0, 0, 0, 0, 0, 0];
         }
-        let ticks = log::ticks(random, tokens.len());
+        let ticks = restarts::ticks(random, &words, &tokens);
         let mut input = file::standard_input(&words, &tokens, &ticks);
         match random.below(12) {
             // The block count.

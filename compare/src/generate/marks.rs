@@ -4,6 +4,7 @@
 use super::draft::Draft;
 use super::input::{Input, Source};
 use super::random::Random;
+use super::restarts::Header;
 use super::{buffers, grammar, log, ties};
 use crate::plain;
 
@@ -14,10 +15,15 @@ impl Source {
     /// Log number `index` for request (iv) and three buffers, full of old content; they do not depend on those
     /// before them.
     pub fn marks(&self, index: u64) -> Input {
+        self.marks_with(index, self.header(index))
+    }
+
+    /// The same with this header.
+    pub fn marks_with(&self, index: u64, header: Header) -> Input {
         // Away from the inputs, the lists and the grammars for the desk of the same number.
         let mut random = Random::at(self.seed().rotate_left(48), index);
         let random = &mut random;
-        let (words, tokens) = self.words_and_faulty_log(random);
+        let (words, tokens) = self.words_and_faulty_log(random, header);
         let [edits, rules, marks] = needed(&words, &tokens);
         Input::Marks {
             edits: room(random, edits, 6),
@@ -30,16 +36,21 @@ impl Source {
 
     /// Standard input number `index` of `print_marks`.
     pub fn mark_input(&self, index: u64) -> Vec<u8> {
+        self.mark_input_with(index, self.header(!index))
+    }
+
+    /// The same with this header.
+    pub fn mark_input_with(&self, index: u64, header: Header) -> Vec<u8> {
         let mut random = Random::at(self.seed().rotate_left(40), index);
         let random = &mut random;
-        let (words, tokens) = self.words_and_faulty_log(random);
+        let (words, tokens) = self.words_and_faulty_log(random, header);
         self.as_input(random, words, tokens)
     }
 
     /// What the parser is tried on, or a grammar whose tokens are reliable, so that nonterminals are inserted.
-    fn words_and_faulty_log(&self, random: &mut Random) -> (Vec<u16>, Vec<u16>) {
+    fn words_and_faulty_log(&self, random: &mut Random, header: Header) -> (Vec<u16>, Vec<u16>) {
         let mut draft = match random.below(16) {
-            0..=3 => return self.words_and_log(random),
+            0..=3 => return self.words_and_log(random, header),
             4..=9 => self.stock()[random.below(self.stock().len())].clone(),
             10 | 11 => ties::ladder(random),
             12 => ties::wide(random),
@@ -47,8 +58,9 @@ impl Source {
                 let (t, n) = (random.range(2, 9), random.range(2, 8));
                 grammar::accepted(random, t, n, 20)
             }
-            _ => return long_log(random),
+            _ => return long_log(random, header),
         };
+        header.put(random, &mut draft);
         if random.chance(1, 2) {
             ties::even(random, &mut draft);
         }
@@ -89,8 +101,9 @@ fn room(random: &mut Random, needed: usize, parts: usize) -> Vec<u16> {
 }
 
 /// A grammar of [`long_part`] and a log in which that part is missing at some places.
-fn long_log(random: &mut Random) -> (Vec<u16>, Vec<u16>) {
-    let draft = long_part(random);
+fn long_log(random: &mut Random, header: Header) -> (Vec<u16>, Vec<u16>) {
+    let mut draft = long_part(random);
+    header.put(random, &mut draft);
     let words = draft.words();
     // How long one of them is.
     let one = plain::needed_marks(&words, &[2, 3], AMPLE).map_or(2, |marked| marked.tokens);

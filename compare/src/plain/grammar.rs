@@ -1,4 +1,5 @@
-//! "Symbols and grammar words": refusal 5, and the grammar that well-shaped words mean.
+//! "Symbols and grammar words": refusal 5, and the grammar that well-shaped words mean. Request (vi) of
+//! document 02 adds a second header: "Grammars get a seventh header word, the restart mark".
 
 /// "Terminal 0 is END."
 pub const END: u16 = 0;
@@ -49,6 +50,8 @@ pub struct Grammar {
     pub closing: u16,
     /// "tick unit: 0 one ms, 1 ten ms".
     pub unit: u16,
+    /// "the restart mark, 1..T-1, or 0 for none"; a header of six words has none.
+    pub restart: u16,
     /// Insert cost and reliability of each terminal.
     pub insert_cost: Vec<u16>,
     pub reliability: Vec<u16>,
@@ -60,8 +63,10 @@ impl Grammar {
     /// The grammar of `words`, or nothing where "grammar words break the shape" (refusal 5).
     pub fn from_words(words: &[u16]) -> Option<Grammar> {
         let mut rest = words.iter().copied();
-        // Words 0, 1, 2: T, N, P.
-        let terminals = within(rest.next()?, 1, 64)?;
+        // Words 0, 1, 2: T, N, P. 02 (vi): with a seventh header word "such grammars have T + 256 in word 0".
+        let first = rest.next()?;
+        let has_seven = first > 256;
+        let terminals = within(if has_seven { first - 256 } else { first }, 1, 64)?;
         let nonterminals = within(rest.next()?, 1, 64)?;
         let count = within(rest.next()?, 1, 256)?;
         // Words 3, 4: "each 1..T-1, or both 0 (no cycles); they may be equal".
@@ -72,6 +77,13 @@ impl Grammar {
         }
         // Word 5.
         let unit = within(rest.next()?, 0, 1)?;
+        // Word 6, by 02 (vi): "1..T-1, or 0 for none"; it "differs from the opening and closing marks unless
+        // it is 0".
+        let restart = if has_seven { rest.next()? } else { 0 };
+        let differs = restart != opening && restart != closing;
+        if restart != 0 && !(is_mark(restart) && differs) {
+            return None;
+        }
         // "then 2 for each terminal 0..T-1: insert cost, reliability"
         let (mut insert_cost, mut reliability) = (Vec::new(), Vec::new());
         for terminal in 0..terminals {
@@ -99,6 +111,7 @@ impl Grammar {
             opening,
             closing,
             unit,
+            restart,
             insert_cost,
             reliability,
             rules,

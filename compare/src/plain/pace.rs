@@ -1,4 +1,5 @@
-//! "Pace": the clean cycles of a log, their time, and the mean.
+//! "Pace": the clean cycles of a log, their time, and the mean. Request (vi) of document 02 adds a ground for a
+//! cycle not to be clean.
 
 use super::check::check;
 use super::grammar::Grammar;
@@ -69,6 +70,11 @@ fn clean_cycle_times(grammar: &Grammar, tokens: &[u16], ticks: &[u32], edits: &[
         // "It is clean when no edit has place p with a < p <= b."
         let touches = |edit: &Edit| a < usize::from(edit.place) && usize::from(edit.place) <= b;
         if edits.iter().any(touches) {
+            continue;
+        }
+        // 02 (vi): "A kept restart mark strictly between a and b makes a cycle unclean." 0 is no mark.
+        let restarts = |place: usize| grammar.restart != 0 && is_kept(place, grammar.restart);
+        if (a + 1..b).any(restarts) {
             continue;
         }
         // "Its time is tick b minus tick a modulo 2^32, times ten for unit 1."

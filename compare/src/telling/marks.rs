@@ -27,6 +27,7 @@ pub fn calls() -> Vec<Call> {
     calls.extend(many());
     calls.extend(refused::rooms());
     calls.extend(refused::refusals());
+    calls.extend(super::restarts::marks());
     calls.extend(long());
     calls
 }

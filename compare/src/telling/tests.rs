@@ -61,11 +61,11 @@ fn the_calls_stand_where_they_should() {
     assert_eq!(refusals[28..30], [0, 10]);
 }
 
-/// The last calls ask for room: one word less than the records take, just as many, and three more. The
-/// moves are counted by hand; a drop is one as an insert is.
+/// The last calls of request (ii) ask for room: one word less than the records take, just as many, and three more.
+/// The moves are counted by hand; a drop is one as an insert is.
 #[test]
 fn room_is_tested_over_the_shorter_list() {
-    let all = parses();
+    let all = empties::calls();
     let (_, calls) = all.split_at(all.len() - 12);
     for (calls, answer) in calls.chunks(3).zip([
         // Six for each 1 4 2, and START dropped and END matched behind them.

@@ -40,6 +40,7 @@ fn cycles(tables: &Tables, tokens: &[u16], ticks: &[u32], edits: &[u16]) -> (u64
     let mut count = Count {
         opening: tables.opening,
         closing: tables.closing,
+        restart: tables.restart,
         open: None,
         cycles: 0,
         sum: 0,
@@ -75,10 +76,11 @@ fn cycles(tables: &Tables, tokens: &[u16], ticks: &[u32], edits: &[u16]) -> (u64
 }
 
 /// The cycles counted so far, and the tick of the opening mark that stands last, if no other
-/// kept mark and no edit has come since.
+/// kept mark, no kept restart mark and no edit has come since.
 struct Count {
     opening: u16,
     closing: u16,
+    restart: u16,
     open: Option<u32>,
     cycles: u64,
     sum: u64,
@@ -93,6 +95,10 @@ impl Count {
                     self.cycles += 1;
                     self.sum += u64::from(tick.wrapping_sub(opened));
                 }
+                self.open = None;
+            }
+            // A cycle with a restart inside is not clean, and its closing mark closes nothing.
+            if token == self.restart {
                 self.open = None;
             }
             if token == self.opening {

@@ -5,17 +5,25 @@ use super::tables::{low_bits, Rule, Tables, LAST, NONE};
 impl Tables {
     /// Refusal 5, and the tables that need no fixpoint.
     pub(super) fn shape(&mut self, words: &[u16]) -> Option<()> {
-        let &[t, n, p, opening, closing, unit, ref rest @ ..] = words else {
+        let &[first, n, p, opening, closing, unit, ref rest @ ..] = words else {
             return None;
+        };
+        // T + 256 stands for a header of seven words, with the restart mark in the last.
+        let (t, restart, rest) = match (first.checked_sub(256), rest) {
+            (None | Some(0), _) => (first, 0, rest),
+            (Some(t), &[restart, ref rest @ ..]) => (t, restart, rest),
+            (Some(_), []) => return None,
         };
         let sizes = (1..=64).contains(&t) && (1..=64).contains(&n) && (1..=256).contains(&p);
         let mark = |mark: u16| 1 <= mark && mark < t;
         let marks = mark(opening) && mark(closing) || opening | closing == 0;
-        if !sizes || !marks || unit > 1 {
+        let other = mark(restart) && restart != opening && restart != closing;
+        if !sizes || !marks || unit > 1 || restart != 0 && !other {
             return None;
         }
         (self.terminals, self.nonterminals, self.count) = (t, usize::from(n), usize::from(p));
         (self.opening, self.closing, self.unit) = (opening, closing, unit);
+        self.restart = restart;
 
         let (weights, rest) = rest.split_at_checked(2 * usize::from(t))?;
         let mut good = weights[0] | weights[1] == 0;

@@ -40,6 +40,8 @@ pub struct Tables {
     pub opening: u16,
     pub closing: u16,
     pub unit: u16,
+    /// The restart mark, or 0, which no token is.
+    pub restart: u16,
     pub(super) count: usize,
     pub rules: [Rule; 256],
     /// The first rule in each nonterminal's list.
@@ -64,6 +66,7 @@ impl Default for Tables {
             opening: 0,
             closing: 0,
             unit: 0,
+            restart: 0,
             count: 0,
             rules: [Rule::default(); 256],
             head: [LAST; 64],

@@ -89,9 +89,10 @@ fn begin_terminals(words: &[u16], table: &mut [u32])
     ensures { λ _. ⌜ Begun (now (words .entry)) 0 (now (table .exit)) ⌝ }
 {
     let count = shape::terminal_count(words);
+    let from = shape::terminals_at(words);
     let mut t = 0;
     while t < count {
-        table[t] = base::long(shape::insert_cost(words, t));
+        table[t] = base::long(shape::insert_cost(words, from, t));
         t += 1;
     }
 }

@@ -58,11 +58,11 @@ pub data MarksBy (wordOf : Mark → ℕ) (Asked : Type 0) (M : Meaning) (log : L
     : Outcome (Counts × ℕ) → List ℕ → List ℕ → List ℕ → Type 0 where
   unparsed : {r : Refusal} {es rs : List ℕ} → ParsesBy Asked M log editRoom ruleRoom (refused r) es rs
       → MarksBy wordOf Asked M log editRoom ruleRoom tokenRoom (refused r) es rs (cleared tokenRoom)
-  short : {ms : List Move} {xs : List Mark} {es rs : List ℕ} → ParsesBy Asked M log editRoom ruleRoom (given ms) es rs → MarkedBy (M .grammar) ms xs
-      → tokenRoom < length xs
+  short : {ms : List Move} {xs : List Mark} {es rs : List ℕ} → ParsesBy Asked M log editRoom ruleRoom (given ms) es rs
+      → MarkedBy (M .grammar) ms xs → tokenRoom < length xs
       → MarksBy wordOf Asked M log editRoom ruleRoom tokenRoom (refused ShortTokens) (cleared editRoom) (cleared ruleRoom) (cleared tokenRoom)
-  whole : {ms : List Move} {xs : List Mark} {es rs : List ℕ} → ParsesBy Asked M log editRoom ruleRoom (given ms) es rs → MarkedBy (M .grammar) ms xs
-      → length xs ≤ tokenRoom
+  whole : {ms : List Move} {xs : List Mark} {es rs : List ℕ} → ParsesBy Asked M log editRoom ruleRoom (given ms) es rs
+      → MarkedBy (M .grammar) ms xs → length xs ≤ tokenRoom
       → MarksBy wordOf Asked M log editRoom ruleRoom tokenRoom (given (countsOf ms, length xs)) es rs (filled tokenRoom (map wordOf xs))
 
 abbrev pub Marks : (Mark → ℕ) → Type 0 → List ℕ → List ℕ → ℕ → ℕ → ℕ → Outcome (Counts × ℕ) → List ℕ → List ℕ → List ℕ → Type 0

@@ -17,8 +17,7 @@ use Rattle.grammar.specs.Refusals.{given}
 use Rattle.grammar.specs.declared.Pace.{Pace}
 use Rattle.pace.specs.Watch.{Cursor, Stands, Few, Small, Lent, Ran, Finds, marksOf, passedBy}
 use Rattle.pace.specs.Standing.{Standing, standing-start, standing-next}
-use Rattle.pace.specs.Ended.{kept-tells, spoils-tells, marks-apart, found-report}
-use Rattle.pace.specs.Found.{Found}
+use Rattle.pace.specs.Ended.{FoundBy, kept-tells, spoils-tells, marks-apart, found-report}
 use Rattle.pace.specs.Few.{few-start, few-next, few-small, unit-most}
 use Rattle.pace.specs.declared.Marks.{Marks}
 use Rattle.pace.specs.declared.Here.{Here}
@@ -91,8 +90,8 @@ module _ {ws log ticks words : List ℕ} {records : ℕ} {watch : Watch} {at pla
             (few-next spoils closes opens (getD ticks place 0) watch (watching .few));
         standing = λ ms ran.
             subst (λ w. StandsAt ws ticks ms (place + 1) w) (sym e)
-            (standing-next (opening ws) (closing ws) (restartMark ws) (tickUnit ws) ticks ms (marks-apart ws log words records ms ran) place spoils
-            closes opens (getD ticks place 0) watch refl
+            (standing-next (opening ws) (closing ws) (restartMark ws) (tickUnit ws) ticks ms (marks-apart ws log words records ms ran) place
+            spoils closes opens (getD ticks place 0) watch refl
             (opens-marked token (opening ws) (here .deleted) (ran .admitted .fits .low place l))
             (spoils-tells ws log words records ms ran place (here .edited) (here .deleted) l (ran .admitted .fits .low place l)
             (stands .edited) (stands .deleted))
@@ -114,8 +113,7 @@ module _ {ws log ticks words : List ℕ} {records : ℕ} {watch : Watch} {at pla
             (λ p. Reports ws ticks (given ms) (given (record { count = watch .count; sum = watch .sum * m; pace = p }, countsOf ms)))
             (sym e)
             (found-report ws log words records ms ran
-            (subst (λ (n : ℕ). Found (opening ws) (closing ws) (restartMark ws) (tickUnit ws) ticks ms (length log) (watch .count) (watch .sum * n)) (sym u)
-            (stood .found)));
+            (subst (λ (n : ℕ). FoundBy ws ticks ms (length log) (watch .count) (watch .sum * n)) (sym u) (stood .found)));
       }
 
 -- Equal marks are equal records.

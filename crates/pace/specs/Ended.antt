@@ -29,6 +29,10 @@ closing-marked : {T o c : ℕ} → Marks T o c → 1 ≤ o → 1 ≤ c
 closing-marked (Marks.marked a b d e) l = d
 closing-marked (Marks.unmarked a b) l = absurd (omega arith)
 
+-- The clean cycles of the words' marks that close before b.
+abbrev pub FoundBy : (ws ticks : List ℕ) → List Move → (b count sum : ℕ) → Type 0
+FoundBy ws ticks = Found (opening ws) (closing ws) (restartMark ws) (tickUnit ws) ticks
+
 -- A restart mark is not the closing mark.
 restart-other : {T o c m : ℕ} → Restart T o c m → 1 ≤ m → m ≡ c → ⊥
 restart-other (Restart.restarts a b d e) some = e
@@ -171,13 +175,13 @@ module _ (ws log words : List ℕ) (records : ℕ) (ms : List Move) (ran : Ran w
       (below-or-not (s .closed) (length log))
 
   -- What was found by the log's end are all clean cycles.
-  pub found-all : {unit count sum : ℕ} {ticks : List ℕ} (f : Found (opening ws) (closing ws) (restartMark ws) unit ticks ms (length log) count sum)
+  pub found-all : {count sum : ℕ} {ticks : List ℕ} (f : FoundBy ws ticks ms (length log) count sum)
       → CleanCycles (opening ws) (closing ws) (restartMark ws) ms (f .cycles)
   found-all f =
       record { ascending = f .ascending; every = λ s y. f .every s y (closes-within s y); only = f .only }
 
   -- So they make the report.
-  pub found-report : {count sum : ℕ} {ticks : List ℕ} → Found (opening ws) (closing ws) (restartMark ws) (tickUnit ws) ticks ms (length log) count sum
+  pub found-report : {count sum : ℕ} {ticks : List ℕ} → FoundBy ws ticks ms (length log) count sum
       → Reports ws ticks (given ms) (given (record { count = count; sum = sum; pace = paceOf count sum }, countsOf ms))
   unfolding reportOf
   found-report {count} {sum} {ticks} f =

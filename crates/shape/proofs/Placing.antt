@@ -85,7 +85,10 @@ module _ (ws : List ℕ) (header : HeaderRight ws) where
     pub refused : {P : Type 0} {T : ℕ} → p < word ws 2 → T ≡ terminalCount ws → (RuleRight ws at T (word ws 1) → ⊥)
         → Decides P (Shaped ws) false
     refused h f wrong =
-        shut-out (λ s. wrong (subst (λ t. RuleRight ws at t (word ws 1)) (sym f) (subst (RuleThere ws) (sym (passed .stands)) (rule-of ws s p h))))
+        shut-out
+        (λ s.
+        wrong
+        (subst (λ t. RuleRight ws at t (word ws 1)) (sym f) (subst (RuleThere ws) (sym (passed .stands)) (rule-of ws s p h))))
 
     pub over : word ws 2 ≤ p → Decides (RulesRight ws places) (Shaped ws) (eqb at (length ws))
     unfolding ruleCount

@@ -24,7 +24,7 @@ use Rattle.grammar.specs.Words.{
 }
 use Rattle.grammar.specs.theory.Headers.{size-least}
 use Rattle.grammar.specs.theory.RightSides.{right-at}
-use Rattle.shape.specs.Accessors.{LeftOf, SizeOf, SymbolAt, headerWords, terminalWords}
+use Rattle.shape.specs.Accessors.{LeftOf, SizeOf, SymbolAt, WordsOf, headerWords, terminalWords}
 use Rattle.shape.specs.Inside.{header-inside, left-ranged, right-length, symbol-small}
 
 -- The least list with the shape has a rule without symbols behind END's words.
@@ -51,12 +51,11 @@ terminal-there ws t zero l =
 terminal-there ws t (suc zero) l = refl
 terminal-there ws t (suc (suc i)) l = absurd (omega arith)
 
-pub terminal-at : (ws : List ℕ) (h t i : ℕ) → h ≡ headerSize ws → i < 2 → word ws (h + 2 * t + i) ≡ getD (terminalWords ws t) i 0
-terminal-at ws h t i e l = ap (λ k. word ws (k + 2 * t + i)) e ∙ terminal-there ws t i l
+pub terminal-at : {ws : List ℕ} {h t : ℕ} → WordsOf ws h t → (i : ℕ) → i < 2 → word ws (h + 2 * t + i) ≡ getD (terminalWords ws t) i 0
+terminal-at {ws} {t = t} w i l = ap (λ k. word ws (k + 2 * t + i)) (w .begins) ∙ terminal-there ws t i l
 
-pub terminal-inside : (ws : List ℕ) → Shaped ws → (h t i : ℕ) → h ≡ headerSize ws → t < terminalCount ws → i < 2
-    → h + 2 * t + i < length ws
-terminal-inside ws s h t i e below l = omega (arith, header-inside ws s)
+pub terminal-inside : {ws : List ℕ} {h t : ℕ} → WordsOf ws h t → (i : ℕ) → i < 2 → h + 2 * t + i < length ws
+terminal-inside {ws} w i l = omega (arith, header-inside ws (w .shaped), w .begins, w .counted)
 
 module _ (ws : List ℕ) (s : Shaped ws) (p : ℕ) (h : p < ruleCount ws) (w : ℕ) where
   pub left-at : w ≡ word ws (rulePlace ws p + 0) → LeftOf ws p w

@@ -8,6 +8,7 @@ use lib.ListN.{length, getD, drop, drop-of-length-le}
 use lib.Seq.{drop-cons}
 use Rattle.grammar.specs.Words.{
   word,
+  headerSize,
   terminalCount,
   nonterminalCount,
   ruleCount,
@@ -19,6 +20,7 @@ use Rattle.grammar.specs.Words.{
   leftSide,
   rightSide,
   RuleSymbol,
+  Shaped,
 }
 
 -- The words that both headers have, by what they say. Word 0 tells T and which header it is.
@@ -28,6 +30,12 @@ headerWords ws = word ws 0 ∷ nonterminalCount ws ∷ ruleCount ws ∷ opening 
 -- The two words of terminal t.
 abbrev pub terminalWords : List ℕ → ℕ → List ℕ
 terminalWords ws t = insertCost ws t ∷ reliability ws t ∷ []
+
+-- What is asked of whoever reads them: words with the shape, and where the terminals' words begin.
+pub record WordsOf (ws : List ℕ) (from t : ℕ) : Type 0 where
+  pub shaped : Shaped ws
+  pub begins : from ≡ headerSize ws
+  pub counted : t < terminalCount ws
 
 -- The left side of rule p is nonterminal k, which is symbol 64 + k.
 pub record LeftOf (ws : List ℕ) (p k : ℕ) : Type 0 where

@@ -24,7 +24,7 @@ ghost use Rattle.grammar.specs.Words.{
   word,
 };
 ghost use Rattle.shape.specs.Ready.{Ready};
-ghost use Rattle.shape.specs.Accessors.{LeftOf, SizeOf, SymbolAt, headerWords, terminalWords};
+ghost use Rattle.shape.specs.Accessors.{LeftOf, SizeOf, SymbolAt, WordsOf, headerWords, terminalWords};
 ghost use Rattle.shape.specs.Parts.{
   Between,
   Decides,
@@ -337,32 +337,37 @@ fn header(words: &[u16], i: usize) -> u16
     words[i]
 }
 
-// The insert cost of terminal t.
-pub fn insert_cost(words: &[u16], t: usize) -> u16
+// Where the terminals' words begin. Whoever goes through all of them asks once.
+pub fn terminals_at(words: &[u16]) -> usize
     requires { ⌜ Shaped (now words) ⌝ }
-    requires { ⌜ t < terminalCount (now words) ⌝ }
+    ensures { λ r. ⌜ r ≡ headerSize (now (words .entry)) ⌝ }
+{
+    header_size(words)
+}
+
+// The insert cost of terminal t.
+pub fn insert_cost(words: &[u16], from: usize, t: usize) -> u16
+    requires { ⌜ WordsOf (now words) from t ⌝ }
     ensures { λ r. ⌜ r ≡ insertCost (now (words .entry)) t ⌝ }
 {
-    terminal_word(words, t, 0)
+    terminal_word(words, from, t, 0)
 }
 
 // The reliability of terminal t, as it stands in the words; END's counts as unlimited.
-pub fn reliability_of(words: &[u16], t: usize) -> u16
-    requires { ⌜ Shaped (now words) ⌝ }
-    requires { ⌜ t < terminalCount (now words) ⌝ }
+pub fn reliability_of(words: &[u16], from: usize, t: usize) -> u16
+    requires { ⌜ WordsOf (now words) from t ⌝ }
     ensures { λ r. ⌜ r ≡ reliability (now (words .entry)) t ⌝ }
 {
-    terminal_word(words, t, 1)
+    terminal_word(words, from, t, 1)
 }
 
 // Word i of terminal t: its insert cost, its reliability.
-fn terminal_word(words: &[u16], t: usize, i: usize) -> u16
-    requires { ⌜ Shaped (now words) ⌝ }
-    requires { ⌜ t < terminalCount (now words) ⌝ }
+fn terminal_word(words: &[u16], from: usize, t: usize, i: usize) -> u16
+    requires { ⌜ WordsOf (now words) from t ⌝ }
     requires { ⌜ i < 2 ⌝ }
     ensures { λ r. ⌜ r ≡ getD (terminalWords (now (words .entry)) t) i 0 ⌝ }
 {
-    words[header_size(words) + 2 * t + i]
+    words[from + 2 * t + i]
 }
 
 // Word i of rule p: its left side, its length, its symbols.

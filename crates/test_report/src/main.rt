@@ -1,5 +1,6 @@
 // Runs the pace report on the bench examples of document 01 that have a log, with their ticks, on examples of equal marks,
-// tick unit 1, both marks 0 and a missing tick, and on those of request (vi). It prints each answer; README.md says where the expected ones come from.
+// tick unit 1, both marks 0 and a missing tick, and on those of request (vi). It prints each answer; README.md says where the expected
+// ones come from.
 use grammar::Pace;
 use grammar::Report;
 use pace::Paced;

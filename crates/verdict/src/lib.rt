@@ -224,9 +224,10 @@ fn limits(words: &[u16], limits: &mut [u32])
 {
     limits[0] = 4294967295;
     let count = shape::terminal_count(words);
+    let from = shape::terminals_at(words);
     let mut t = 1;
     while t < count {
-        limits[t] = shape::reliability_of(words, t) as u32;
+        limits[t] = shape::reliability_of(words, from, t) as u32;
         t += 1;
     }
 }

@@ -2,7 +2,7 @@
 
 use super::{either, nested, with_reliability_of_4};
 use crate::examples::cheapest::eights;
-use crate::generate::families::bench_g;
+use crate::generate::families::{bench_g, bench_h};
 use crate::generate::file::standard_input;
 use crate::generate::Draft;
 
@@ -50,5 +50,10 @@ pub fn printed() -> Vec<(Vec<u8>, &'static str)> {
         (input(&nested(), &[1; 254], &[0; 254]), "refused 11\n"),
         (input(&eights(938), &[], &[]), "refused 8\n"),
         (Vec::new(), "refused 1\n"),
+        // H of request (vi): a restart has its own tick, as every mark.
+        (
+            input(&bench_h(), &[1, 1, 4, 3], &[5, 9, 0, 2]),
+            "keep 1 5\nadd 3\nkeep 1 9\nkeep 4 0\nkeep 3 2\nmarks 5 added 1\n",
+        ),
     ]
 }

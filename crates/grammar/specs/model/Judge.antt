@@ -144,7 +144,8 @@ module _ (ws : List ℕ) (s : Shaped ws) where
       subst (Cheapest (RuleOf ws) price A) (sym (cost-known price table A (k .0) (k .1)))
       (cheapest-within (RuleAt rs) (RuleOf ws) from to (cheapest rs price N N settled A (k .0) (k .1)))
 
-  pub affordable-test : T (costsReady ws) → Reflects (allAffordable ws) ((k : ℕ) → k < nonterminalCount ws → Affordable (RuleOf ws) (insertCost ws) (64 + k))
+  pub affordable-test : T (costsReady ws) → Reflects (allAffordable ws)
+      ((k : ℕ) → k < nonterminalCount ws → Affordable (RuleOf ws) (insertCost ws) (64 + k))
   unfolding allAffordable
   affordable-test r =
       symbols-numbers (nonterminalCount ws) (Affordable (RuleOf ws) (insertCost ws))

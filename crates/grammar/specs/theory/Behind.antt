@@ -209,8 +209,7 @@ module _ (ws vs : List ℕ) (same : SameHeader ws vs) where
   headers-alike =
       record {
         conditions =
-            subst
-            (λ N. SameConditions (conditionsOf (Shaped ws) (nonterminalCount ws) (grammarOf ws)) (conditionsOf (Shaped vs) N (grammarOf vs)))
+            subst (λ N. SameConditions (meaningOf ws .conditions) (conditionsOf (Shaped vs) N (grammarOf vs)))
             (same .nonterminals)
             (same-conditions (Shaped ws) (Shaped vs) (nonterminalCount ws) (grammarOf ws) (grammarOf vs)
             (shaped-same ws vs same, shaped-same vs ws other) grammar-same);

@@ -17,7 +17,7 @@ use Rattle.grammar.specs.Refusals.{Condition, _unless_, FirstFailing, Lo
 use Rattle.grammar.specs.Run.{Plausible, Hit, Choice, State, Limits, Run, Pick, started, countsOf}
 use Rattle.grammar.specs.Run.{LogBelow, conditionsBefore, Settled, RunBy, ParsesBy, ParsedBy}
 use Rattle.grammar.specs.Desk.{CostsAndRules, conditionsAtDesk, DeskBy}
-use Rattle.grammar.specs.Marks.{Mark, MarkedBy, MarksBy}
+use Rattle.grammar.specs.Marks.{Mark, Marked, MarkedBy, MarksBy}
 use Rattle.grammar.specs.Pace.{CleanCycles, ReportsBy, ReportedBy, reportOf}
 use Rattle.grammar.specs.declared.Refusal.{Refusal}
 use Rattle.grammar.specs.declared.Refusal.the-variants.{BadLog, ShortDesk}
@@ -132,7 +132,7 @@ module _ (G H : Grammar) (s : SameGrammar G H) where
 
   pub to-marked : {ms : List Move} {xs : List Mark} → MarkedBy G ms xs → MarkedBy H ms xs
   to-marked {ms} {xs} k =
-      subst (λ f. MarkedBy (record { known = H .known; rules = H .rules; begin = H .begin; price = f; reliable = H .reliable }) ms xs) (s .price)
+      subst (λ f. Marked (H .rules) f ms xs) (s .price)
       (marked-within (G .rules) (H .rules) to from k)
 
   to-plausible : {σ : List ℕ} {t i : ℕ} → Plausible G σ t i → Plausible H σ t i
@@ -262,7 +262,8 @@ module _ {M K : Meaning} (s : Alike M K) where
 
   to-parses : {Asked : Type 0} {log : List ℕ} {editRoom ruleRoom : ℕ} {o : Outcome (List Move)} {es rs : List ℕ}
       → ParsesBy Asked M log editRoom ruleRoom o es rs → ParsesBy Asked K log editRoom ruleRoom o es rs
-  to-parses {Asked} {log} p = record { settled = to-settled Asked log (p .settled); leaves-edits = p .leaves-edits; leaves-rules = p .leaves-rules }
+  to-parses {Asked} {log} p =
+      record { settled = to-settled Asked log (p .settled); leaves-edits = p .leaves-edits; leaves-rules = p .leaves-rules }
 
   to-parsed : {Asked : Type 0} {log : List ℕ} {editRoom ruleRoom : ℕ} {a : Outcome Counts} {es rs : List ℕ}
       → ParsedBy Asked M log editRoom ruleRoom a es rs → ParsedBy Asked K log editRoom ruleRoom a es rs

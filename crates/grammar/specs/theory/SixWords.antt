@@ -3,13 +3,13 @@
 --     sixWords                what 01 says that words mean
 --     old-alike               words whose word 0 is at most 64 mean that
 use Prim.Native.Nat.{ℕ, zero, suc, _+_, _*_, _≤_, _<_}
-use mathlib.Core.Path.{_≡_, refl, sym, ap, ap₂, subst, subst₂, _∙_}
+use mathlib.Core.Path.{_≡_, refl, sym, ap, subst, subst₂, _∙_}
 use mathlib.Core.List.{List}
 use mathlib.Core.Logic.{_↔_, _⊎_, inl, inr}
 use native.Mathlib.Omega.{arith}
 use lib.ListN.{length, take, drop}
 use Rattle.grammar.specs.Words.{END, word, RuleSymbol, Marks, Restart, Shaped, TerminalWords, RuleWords}
-use Rattle.grammar.specs.Words.{isLong, headerSize, terminalCount, nonterminalCount, ruleCount, opening, closing, tickUnit, restartMark}
+use Rattle.grammar.specs.Words.{nonterminalCount, ruleCount, opening, closing, tickUnit}
 use Rattle.grammar.specs.Words.{insertCost, reliability, rulePlace, leftSide, rightSize, rightSide}
 use Rattle.grammar.specs.Grammar.{Grammar, RuleOf, Reliable, startOverEnd, grammarOf, conditionsOf, Meaning, meaningOf}
 use Rattle.grammar.specs.theory.Headers.{short-terminals, short-size, short-restart}
@@ -208,7 +208,8 @@ module _ (ws : List ℕ) (short : word ws 0 ≤ 256) where
   unfolding nonterminalCount opening closing tickUnit
   short-alike =
       record {
-        conditions = same-conditions (Shaped ws) (SixShaped ws) (word ws 1) (grammarOf ws) (sixGrammar ws) (shaped-six, six-shaped) grammar-six;
+        conditions =
+            same-conditions (Shaped ws) (SixShaped ws) (word ws 1) (grammarOf ws) (sixGrammar ws) (shaped-six, six-shaped) grammar-six;
         terminals = short-terminals ws short;
         nonterminals = refl;
         grammar = grammar-six;

@@ -1,21 +1,16 @@
-use native.Mathlib.Omega.{arith}
+-- `shape::header_size` meets its contract: word 0 alone tells.
 use mathlib.Core.Path.{sym}
 use Rattle.grammar.specs.theory.Headers.{long-size, short-size}
 use borrow.Author.Needs.{needs}
 use Rattle.shape.proofs.header_size.Statement.{statement}
 use Rattle.shape.proofs.header_size.Tie as tie
-use Rattle.shape.proofs.header_size.Reads as reads
-use Rattle.shape.proofs.header_size.Lts as lts
 
--- src/lib.rt:114:15
 shared-slice-read-if1 : tie.Need-shared-slice-read-if1
 shared-slice-read-if1 c = search needs
 
--- src/lib.rt:110:1
 returns : tie.Need-returns
 returns c = sym (long-size _ (c .if1 .taken))
 
--- src/lib.rt:110:1
 returns-2 : tie.Need-returns-2
 returns-2 c = sym (short-size _ (c .if1 .left))
 

@@ -1,29 +1,25 @@
-use borrow.Author.Needs.{needs}
-use native.Mathlib.Omega.{arith}
+-- `shape::restart_right` meets its contract: by the two cases of `Restart`.
 use native.Mathlib.Omega.{arith}
 use Rattle.base.specs.Telling.{told, denied, tells-le}
 use Rattle.grammar.specs.Words.{Restart}
 use Rattle.shape.proofs.Judging.{restart-opening, restart-closing, restart-below}
 use Rattle.shape.proofs.restart_right.Statement.{statement}
 use Rattle.shape.proofs.restart_right.Tie as tie
-use Rattle.shape.proofs.restart_right.Reads as reads
-use Rattle.shape.proofs.restart_right.Lts as lts
 
--- src/lib.rt:157:9
 returns : tie.Need-returns
 returns c = told (Restart.none (c .if1 .taken))
 
--- src/lib.rt:160:9
 returns-2 : tie.Need-returns-2
 returns-2 c = denied (λ m. restart-opening m (c .before .if1 .left) (c .if2 .taken))
 
--- src/lib.rt:163:9
 returns-3 : tie.Need-returns-3
 returns-3 c = denied (λ m. restart-closing m (c .before .before .if1 .left) (c .if3 .taken))
 
--- src/lib.rt:153:1
 returns-4 : tie.Need-returns-4
-returns-4 c = tells-le _ _ (λ h. Restart.restarts (omega arith) h (c .before .if2 .left) (c .if3 .left)) (λ m. restart-below m (c .before .before .if1 .left))
+returns-4 c =
+    let at-if1 = c .before .before in
+    tells-le _ _ (λ h. Restart.restarts (omega arith) h (c .before .if2 .left) (c .if3 .left))
+    (λ m. restart-below m (at-if1 .if1 .left))
 
 pub restart-right-spec : {M : Type 1} → statement M
 restart-right-spec = tie.close (tie.spec returns returns-2 returns-3 returns-4)
