@@ -17,7 +17,7 @@
  *    2 some block's check is wrong                                 8 a nonterminal costs over 60,000
  *    3 some block number, use count or unused word is wrong        9 two rules share a predict token
  *    4 the word buffer is shorter than the file's words           10 over 4,096 tokens, a token outside 1..T-1, or
- *    5 grammar words break the shape                                 ticks and tokens differ in number
+ *    5 grammar words break the shape, a bad restart mark too         ticks and tokens differ in number
  *    6 a nonterminal is unreachable                               11 an expand would leave more than 256 symbols on the
  *                                                                    stack, END counted
  *                                                                 12 the next rule number or edit record does not fit
@@ -29,6 +29,10 @@
  *                                                                    there are nonterminals
  * The lowest of 1 to 10, 13, 14 and 23 that applies to a call is given; 11 and 12 come from the first move that meets them, and 15 only
  * where none of the others is given.
+ *
+ * Grammar words: word 0 is T, the number of terminals, and the header has six words; or it is T + 256 (257 to 320), and the header has
+ * seven, of which word 6 is the restart mark, 0 for none. A kept restart mark between the two marks of a cycle makes it unclean:
+ * odhrashup_pace does not time it.
  *
  * What is left in a buffer that is written (words, bytes, costs, rules, edits, tokens, counts, mean), in every element of it:
  *  - after a refusal zeros, and no more;
