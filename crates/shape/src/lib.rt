@@ -192,11 +192,12 @@ fn rules_right(words: &[u16], places: &mut [u16]) -> bool
     ensures { λ r. ⌜ Decides (RulesRight (now (words .entry)) (now (places .exit))) (Shaped (now (words .entry))) r ⌝ }
 {
     let count = base::wide(words[2]);
+    let n = words[1];
     let t = terminals(words);
     let mut at = header_size(words) + 2 * base::wide(t);
     let mut p = 0;
     while p < count {
-        if rule_right(words, at, t, words[1]) {} else {
+        if rule_right(words, at, t, n) {} else {
             return false;
         }
         places[p] = at as u16;
