@@ -62,6 +62,7 @@ pub mod Marking
 pub mod MarkAnswers
 pub mod Headers
 pub mod SameRules
+pub mod SameGrammars
 pub mod Meanings
 pub mod SixWords
 pub mod Behind

@@ -14,7 +14,8 @@ use Rattle.grammar.specs.Words.{headerSize, terminalCount, nonterminalCo
 use Rattle.grammar.specs.Words.{insertCost, reliability, rulePlace, leftSide, rightSize, rightSide}
 use Rattle.grammar.specs.Grammar.{RuleOf, Reliable, grammarOf, conditionsOf, meaningOf}
 use Rattle.grammar.specs.theory.Headers.{long-terminals, long-size, long-restart, short-terminals, short-size, short-restart}
-use Rattle.grammar.specs.theory.Meanings.{SameGrammar, SameConditions, Alike, same-conditions}
+use Rattle.grammar.specs.theory.Meanings.{SameConditions, Alike, same-conditions}
+use Rattle.grammar.specs.theory.SameGrammars.{SameGrammar}
 
 -- The words behind the header.
 abbrev behind : List ℕ → List ℕ

@@ -13,7 +13,8 @@ use Rattle.grammar.specs.Words.{nonterminalCount, ruleCount, opening, cl
 use Rattle.grammar.specs.Words.{insertCost, reliability, rulePlace, leftSide, rightSize, rightSide}
 use Rattle.grammar.specs.Grammar.{Grammar, RuleOf, Reliable, startOverEnd, grammarOf, conditionsOf, Meaning, meaningOf}
 use Rattle.grammar.specs.theory.Headers.{short-terminals, short-size, short-restart}
-use Rattle.grammar.specs.theory.Meanings.{SameGrammar, Alike, same-conditions}
+use Rattle.grammar.specs.theory.Meanings.{Alike, same-conditions}
+use Rattle.grammar.specs.theory.SameGrammars.{SameGrammar}
 
 -- ---- What 01 says
 
