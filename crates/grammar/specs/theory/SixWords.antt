@@ -1,7 +1,7 @@
 -- Document 01's table of grammar words as it stood before request (vi): the header has six words, and word 0 is T. This file repeats it,
 -- so that "old words mean what they meant" can be stated (`Requests` `old-words`); nothing else reads words by it.
 --     sixWords                what 01 says that words mean
---     old-alike               words whose word 0 is at most 64 mean that
+--     short-alike             words whose word 0 is at most 256 mean that
 use Prim.Native.Nat.{ℕ, zero, suc, _+_, _*_, _≤_, _<_}
 use mathlib.Core.Path.{_≡_, refl, sym, ap, subst, subst₂, _∙_}
 use mathlib.Core.List.{List}
