@@ -1,4 +1,5 @@
-/* A bench that links the library: each function once, then an idle station and seven refusals. `examples/bench` builds and runs it; on an
+/* A bench that links the library: each function once, then two idle stations, one by a restart, and seven refusals. `examples/bench` builds
+ * and runs it; on an
  * x86-64 Linux that is
  *
  *    ./library
@@ -12,6 +13,13 @@
 /* The words of grammar G, the sample of the printing program too: marks start 1, pole 2, crimp 3, done 4. */
 static const uint16_t grammar[] = {7, 4,  6, 1, 4, 0, 0, 0,  20, 60, 3, 9, 5, 15, 4, 40, 3, 2, 3, 2, 0,
                                    2, 65, 64, 0, 0, 1, 3, 1, 66, 4,  2, 3, 2, 67, 3, 3,  2, 5, 6, 3, 0};
+
+/* Grammar H: its header has a seventh word, the restart mark 4, and so T + 256 in word 0. Marks of a cycle: 1 and 3. */
+static const uint16_t restarts[] = {
+    261, 3, 7, 1, 3, 0, 4,
+    0, 0, 20, 60, 3, 9, 4, 40, 1, 2,
+    0, 2, 65, 64, 0, 2, 4, 64, 0, 0, 1, 3, 1, 66, 3, 2, 2, 2, 66, 2, 2, 4, 66, 2, 0,
+};
 
 /* The status decides what is shown. An idle station has no figure, and a refusal has a number only. */
 static void show(const char *what, uint32_t status, const uint64_t *counts, const double *mean) {
@@ -82,6 +90,13 @@ int main(void) {
     status = odhrashup_pace(words, n, log, 1, ticks, 1, edits, LEN(edits), rules, LEN(rules), counts, LEN(counts), mean,
                             LEN(mean));
     show("one mark", status, counts, mean);
+
+    /* The controller began to count from zero inside the cycle: it is not timed. */
+    const uint16_t restarted[] = {1, 4, 3};
+    const uint32_t from_zero[] = {100, 0, 30};
+    status = odhrashup_pace(restarts, LEN(restarts), restarted, LEN(restarted), from_zero, LEN(from_zero), edits, LEN(edits), rules,
+                            LEN(rules), counts, LEN(counts), mean, LEN(mean));
+    show("a restart", status, counts, mean);
 
     status = odhrashup_pace(words, n, strange, 2, ticks, 2, edits, LEN(edits), rules, LEN(rules), counts, LEN(counts), mean,
                             LEN(mean));
