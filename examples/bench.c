@@ -1,6 +1,5 @@
 /* A bench that links the library: each function once, then two idle stations, one by a restart, and seven refusals. `examples/bench` builds
- * and runs it; on an
- * x86-64 Linux that is
+ * and runs it; on an x86-64 Linux that is
  *
  *    ./library
  *    cc -Iinclude examples/bench.c target/libodhrashup.a -o bench && ./bench

@@ -23,6 +23,7 @@ abbrev pub conditionsAtDesk : Meaning → ℕ → ℕ → List Condition
 conditionsAtDesk M costRoom ruleRoom =
     M .conditions ++ ((ShortDesk unless ((M .nonterminals ≤ costRoom) × (M .nonterminals ≤ ruleRoom))) ∷ [])
 
+-- Those of the words.
 abbrev pub deskConditions : List ℕ → ℕ → ℕ → List Condition
 deskConditions ws = conditionsAtDesk (meaningOf ws)
 
@@ -33,5 +34,6 @@ pub data DeskBy (M : Meaning) (costRoom ruleRoom : ℕ) : Outcome ℕ → List �
   refuse : {r : Refusal} → Lowest (conditionsAtDesk M costRoom ruleRoom) (some r)
       → DeskBy M costRoom ruleRoom (refused r) (cleared costRoom) (cleared ruleRoom)
 
+-- The answer to the words.
 abbrev pub DeskAnswer : List ℕ → ℕ → ℕ → Outcome ℕ → List ℕ → List ℕ → Type 0
 DeskAnswer ws = DeskBy (meaningOf ws)

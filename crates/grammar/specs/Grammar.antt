@@ -107,6 +107,7 @@ pub record Meaning : Type 1 where
   pub restart : ℕ
   pub unit : ℕ
 
+-- What these words mean.
 abbrev pub meaningOf : List ℕ → Meaning
 meaningOf ws = record {
   conditions = grammarConditions ws;
@@ -123,5 +124,6 @@ meaningOf ws = record {
 abbrev pub VerdictBy : Meaning → Option Refusal → Type 0
 VerdictBy M o = Lowest (M .conditions) o
 
+-- The verdict on the words.
 abbrev pub Verdict : List ℕ → Option Refusal → Type 0
 Verdict ws o = VerdictBy (meaningOf ws) o

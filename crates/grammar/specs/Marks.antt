@@ -65,6 +65,7 @@ pub data MarksBy (wordOf : Mark → ℕ) (Asked : Type 0) (M : Meaning) (log : L
       → MarkedBy (M .grammar) ms xs → length xs ≤ tokenRoom
       → MarksBy wordOf Asked M log editRoom ruleRoom tokenRoom (given (countsOf ms, length xs)) es rs (filled tokenRoom (map wordOf xs))
 
+-- The answer to the words.
 abbrev pub Marks : (Mark → ℕ) → Type 0 → List ℕ → List ℕ → ℕ → ℕ → ℕ → Outcome (Counts × ℕ) → List ℕ → List ℕ → List ℕ → Type 0
 Marks wordOf Asked ws = MarksBy wordOf Asked (meaningOf ws)
 

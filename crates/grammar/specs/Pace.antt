@@ -97,6 +97,7 @@ pub data ReportsBy (M : Meaning) (ticks : List ℕ) : Outcome (List Move) → Ou
       → ReportsBy M ticks (given ms) (given (reportOf (M .unit) ticks cs, countsOf ms))
   unpaced : {r : Refusal} → ReportsBy M ticks (refused r) (refused r)
 
+-- That by the words.
 abbrev pub Reports : List ℕ → List ℕ → Outcome (List Move) → Outcome (Report × Counts) → Type 0
 Reports ws = ReportsBy (meaningOf ws)
 
@@ -108,5 +109,6 @@ pub record ReportedBy (M : Meaning) (log ticks : List ℕ) (editRoom ruleRoom : 
   pub parses : ParsesBy (length ticks ≡ length log) M log editRoom ruleRoom outcome es rs
   pub reports : ReportsBy M ticks outcome answer
 
+-- The report's answer to the words.
 abbrev pub Reported : List ℕ → List ℕ → List ℕ → ℕ → ℕ → Outcome (Report × Counts) → List ℕ → List ℕ → Type 0
 Reported ws = ReportedBy (meaningOf ws)

@@ -161,6 +161,7 @@ pub record LogBelow (T : ℕ) (log : List ℕ) : Type 0 where
   pub low : (i : ℕ) → i < length log → 1 ≤ getD log i END
   pub high : (i : ℕ) → i < length log → getD log i END < T
 
+-- The log fits the words.
 abbrev pub LogFits : List ℕ → List ℕ → Type 0
 LogFits ws log = LogBelow (terminalCount ws) log
 
@@ -168,6 +169,7 @@ LogFits ws log = LogBelow (terminalCount ws) log
 abbrev pub conditionsBefore : Meaning → List ℕ → Type 0 → List Condition
 conditionsBefore M log Asked = M .conditions ++ ((BadLog unless (LogBelow (M .terminals) log × Asked)) ∷ [])
 
+-- Those of the words.
 abbrev pub runConditions : List ℕ → List ℕ → Type 0 → List Condition
 runConditions ws log Asked = conditionsBefore (meaningOf ws) log Asked
 
@@ -182,6 +184,7 @@ abbrev pub RunBy : Grammar → List ℕ → ℕ → ℕ → List Move → Option
 RunBy G log editRoom ruleRoom =
     Run G (record { height = 256; editRoom = editRoom; ruleRoom = ruleRoom }) (started (G .begin) log)
 
+-- The run by the words' grammar, which begins with START over END.
 abbrev pub RunOf : List ℕ → List ℕ → ℕ → ℕ → List Move → Option Refusal → Type 0
 RunOf ws = RunBy (grammarOf ws)
 
@@ -206,6 +209,7 @@ pub record ParsesBy (Asked : Type 0) (M : Meaning) (log : List ℕ) (editRoom ru
   pub leaves-edits : es ≡ left (λ ms. editWords (edits ms)) editRoom outcome
   pub leaves-rules : rs ≡ left ruleNumbers ruleRoom outcome
 
+-- What it comes to by the words.
 abbrev pub Parses : Type 0 → List ℕ → List ℕ → ℕ → ℕ → Outcome (List Move) → List ℕ → List ℕ → Type 0
 Parses Asked ws = ParsesBy Asked (meaningOf ws)
 
@@ -216,6 +220,7 @@ pub record ParsedBy (Asked : Type 0) (M : Meaning) (log : List ℕ) (editRoom ru
   pub parses : ParsesBy Asked M log editRoom ruleRoom outcome es rs
   pub answers : answer ≡ answered outcome
 
+-- Those of the words.
 abbrev pub ParsedAsking : Type 0 → List ℕ → List ℕ → ℕ → ℕ → Outcome Counts → List ℕ → List ℕ → Type 0
 ParsedAsking Asked ws = ParsedBy Asked (meaningOf ws)
 
