@@ -1,5 +1,5 @@
-/* A bench that links the library: each function once, then two idle stations, one by a restart, and seven refusals. `examples/bench` builds
- * and runs it; on an x86-64 Linux that is
+/* A bench that links the library: each function once, then two idle stations, one by a restart, and nine refusals, two of them for the tick
+ * unit. `examples/bench` builds and runs it; on an x86-64 Linux that is
  *
  *    ./library
  *    cc -Iinclude examples/bench.c target/libodhrashup.a -o bench && ./bench
@@ -119,5 +119,17 @@ int main(void) {
     status = odhrashup_costs(grammar, LEN(grammar), costs, LEN(costs), cheapest, 3, counts, LEN(counts));
     printf("room for three rules: refused %u, %llu nonterminals, cleared %d\n", status,
            (unsigned long long)counts[ODHRASHUP_COSTS_NONTERMINALS], costs[1] == 0 && cheapest[0] == 0);
+
+    /* An old grammar, whose ticks are ten ms long: its log is repaired as ever, but no pace comes of it, and no new file. */
+    uint16_t old[LEN(grammar)];
+    for (size_t i = 0; i < LEN(grammar); i++) old[i] = grammar[i];
+    old[5] = 1;
+    status = odhrashup_parse(old, LEN(old), log, LEN(log), edits, LEN(edits), rules, LEN(rules), counts, LEN(counts));
+    printf("ten ms, parse: status %u, %llu moves\n", status, (unsigned long long)counts[ODHRASHUP_PARSE_MOVES]);
+    status = odhrashup_pace(old, LEN(old), log, LEN(log), ticks, LEN(ticks), edits, LEN(edits), rules, LEN(rules), counts,
+                            LEN(counts), mean, LEN(mean));
+    show("ten ms, pace", status, counts, mean);
+    status = odhrashup_write(old, LEN(old), file, LEN(file), counts, LEN(counts));
+    printf("ten ms, write: refused %u, %llu bytes\n", status, (unsigned long long)counts[ODHRASHUP_WRITE_BYTES]);
     return 0;
 }

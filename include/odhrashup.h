@@ -12,7 +12,7 @@
  * odhrashup_parse, odhrashup_marks and odhrashup_pace, whatever the input. (Measured, not proved: 72, 152, 6,760, 6,824, 20,392, 22,008
  * and 20,456 bytes.)
  *
- * Each function answers a status: 0, ODHRASHUP_IDLE, or the number of a refusal, 1 to 15 or 23:
+ * Each function answers a status: 0, ODHRASHUP_IDLE, or the number of a refusal, 1 to 16 or 23:
  *    1 file empty, not a multiple of 512, or over 5,632 bytes      7 a nonterminal derives no terminal string
  *    2 some block's check is wrong                                 8 a nonterminal costs over 60,000
  *    3 some block number, use count or unused word is wrong        9 two rules share a predict token
@@ -25,10 +25,11 @@
  *                                                                 14 the byte buffer is shorter than the file
  *                                                                 15 the token buffer is shorter than the repaired log
  *                                                                    in marks alone
+ *                                                                 16 the tick unit is 1: no pace, and no file
  *                                                                 23 the cost or the rule buffer has fewer words than
  *                                                                    there are nonterminals
- * The lowest of 1 to 10, 13, 14 and 23 that applies to a call is given; 11 and 12 come from the first move that meets them, and 15 only
- * where none of the others is given.
+ * The lowest of 1 to 10, 13, 14 and 23 that applies to a call is given; 16 stands behind 10, and behind 13 but before 14; 11 and 12 come
+ * from the first move that meets them, and 15 only where none of the others is given.
  *
  * Grammar words: word 0 is T, the number of terminals, and the header has six words; or it is T + 256 (257 to 320), and the header has
  * seven, of which word 6 is the restart mark, 0 for none. A kept restart mark between the two marks of a cycle makes it unclean:
@@ -125,9 +126,10 @@ extern "C" {
 uint32_t odhrashup_read(const uint8_t *bytes, size_t bytes_len, uint16_t *words, size_t words_len, uint64_t *counts,
                         size_t counts_len);
 
-/* Writes a grammar file. Status 0, 13 or 14. The words are not checked: any 1 to 2,783 are written. `bytes` gets the file of the words,
- * counts[ODHRASHUP_WRITE_BYTES] the number of its bytes. Only these are the file: read back, they give the words; with the zeros behind
- * them they are another file, which is refused. */
+/* Writes a grammar file. Status 0, or 13, 16 or 14, tested in this order. The words are not checked: any 1 to 2,783 are written, but for
+ * six or more of which words[5] is 1 (tick unit 1), which are 16. `bytes` gets the file of the words, counts[ODHRASHUP_WRITE_BYTES] the
+ * number of its bytes. Only these are the file: read back, they give the words; with the zeros behind them they are another file, which is
+ * refused. */
 uint32_t odhrashup_write(const uint16_t *words, size_t words_len, uint8_t *bytes, size_t bytes_len, uint64_t *counts,
                          size_t counts_len);
 
@@ -155,7 +157,8 @@ uint32_t odhrashup_marks(const uint16_t *words, size_t words_len, const uint16_t
                          size_t edits_len, uint16_t *rules, size_t rules_len, uint16_t *tokens, size_t tokens_len,
                          uint64_t *counts, size_t counts_len);
 
-/* Repairs a log and times its clean cycles. Status 0, ODHRASHUP_IDLE, or 5 to 12. `edits` and `rules` as above, `counts` the two of
+/* Repairs a log and times its clean cycles. Status 0, ODHRASHUP_IDLE, 5 to 10, 16 where the tick unit is 1, or 11 and 12. Unit 1 is never
+ * idle: no pace comes of it, and nothing is repaired. `edits` and `rules` as above, `counts` the two of
  * ODHRASHUP_PACE_.. (how many records and rules there are is not told: kind 0 is no record, and odhrashup_parse has the numbers).
  * mean[0] is the mean in ms where the status is 0, and NaN where the station is idle, so that no figure, old or zero, can be taken for
  * a time. After a refusal it is 0. */

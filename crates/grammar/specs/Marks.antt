@@ -7,7 +7,7 @@ use Rattle.grammar.specs.Cost.{Ends}
 use Rattle.grammar.specs.Grammar.{Grammar, Meaning, grammarOf, meaningOf}
 use Rattle.grammar.specs.Buffers.{filled, cleared}
 use Rattle.grammar.specs.Moves.{Move}
-use Rattle.grammar.specs.Run.{ParsesBy, countsOf}
+use Rattle.grammar.specs.Run.{Asks, noMore, ParsesBy, countsOf}
 use Rattle.grammar.specs.Refusals.{Outcome, given, refused}
 use Rattle.grammar.specs.declared.Refusal.{Refusal}
 use Rattle.grammar.specs.declared.Refusal.the-variants.{ShortTokens}
@@ -52,9 +52,9 @@ abbrev pub MarksOf : List ℕ → List Move → List Mark → Type 0
 MarksOf ws = MarkedBy (grammarOf ws)
 
 -- The answer, counts of the parse and number of marks or a refusal, and the three buffers afterwards, where `wordOf` is what stands for a
--- mark in the last one. "It runs the parse itself, so 01's refusals come first", with what else is asked under 10; "15 when the token buffer
+-- mark in the last one. "It runs the parse itself, so 01's refusals come first", with what else is asked; "15 when the token buffer
 -- is too short for the full result, leaving every output buffer all zeros".
-pub data MarksBy (wordOf : Mark → ℕ) (Asked : Type 0) (M : Meaning) (log : List ℕ) (editRoom ruleRoom tokenRoom : ℕ)
+pub data MarksBy (wordOf : Mark → ℕ) (Asked : Asks) (M : Meaning) (log : List ℕ) (editRoom ruleRoom tokenRoom : ℕ)
     : Outcome (Counts × ℕ) → List ℕ → List ℕ → List ℕ → Type 0 where
   unparsed : {r : Refusal} {es rs : List ℕ} → ParsesBy Asked M log editRoom ruleRoom (refused r) es rs
       → MarksBy wordOf Asked M log editRoom ruleRoom tokenRoom (refused r) es rs (cleared tokenRoom)
@@ -66,9 +66,9 @@ pub data MarksBy (wordOf : Mark → ℕ) (Asked : Type 0) (M : Meaning) (log : L
       → MarksBy wordOf Asked M log editRoom ruleRoom tokenRoom (given (countsOf ms, length xs)) es rs (filled tokenRoom (map wordOf xs))
 
 -- The answer to the words.
-abbrev pub Marks : (Mark → ℕ) → Type 0 → List ℕ → List ℕ → ℕ → ℕ → ℕ → Outcome (Counts × ℕ) → List ℕ → List ℕ → List ℕ → Type 0
+abbrev pub Marks : (Mark → ℕ) → Asks → List ℕ → List ℕ → ℕ → ℕ → ℕ → Outcome (Counts × ℕ) → List ℕ → List ℕ → List ℕ → Type 0
 Marks wordOf Asked ws = MarksBy wordOf Asked (meaningOf ws)
 
 -- The repaired log in marks alone: each mark is its token, and no more is asked.
 abbrev pub MarksAnswer : List ℕ → List ℕ → ℕ → ℕ → ℕ → Outcome (Counts × ℕ) → List ℕ → List ℕ → List ℕ → Type 0
-MarksAnswer = Marks tokenOf (Unit {0})
+MarksAnswer = Marks tokenOf noMore

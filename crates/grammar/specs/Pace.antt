@@ -1,5 +1,5 @@
--- Document 01, "Pace": cycles, which of them are clean, their times, and the report.
-use Prim.Native.Nat.{ℕ, zero, suc, _+_, _-_, _*_, _%_, _≤_, _<_}
+-- Document 01, "Pace": cycles, which of them are clean, their times, and the report; with requests (vi) and (viii) of 02.
+use Prim.Native.Nat.{ℕ, zero, suc, _+_, _-_, _%_, _≤_, _<_}
 use mathlib.Core.Path.{_≡_}
 use mathlib.Core.List.{List, [], _∷_, List·Memᴰ}
 use lib.ListN.{length, getD}
@@ -7,9 +7,10 @@ use lib.Ieee.{div, ofInt, binary64}
 use lib.IntN.{pos}
 use Rattle.grammar.specs.Grammar.{Meaning, meaningOf}
 use Rattle.grammar.specs.Moves.{Move, edits}
-use Rattle.grammar.specs.Refusals.{Outcome, given, refused}
-use Rattle.grammar.specs.Run.{countsOf, ParsesBy}
+use Rattle.grammar.specs.Refusals.{_unless_, Outcome, given, refused}
+use Rattle.grammar.specs.Run.{Asks, countsOf, ParsesBy}
 use Rattle.grammar.specs.declared.Refusal.{Refusal}
+use Rattle.grammar.specs.declared.Refusal.the-variants.{Hundredths}
 use Rattle.grammar.specs.declared.Pace.{Pace}
 use Rattle.grammar.specs.declared.Pace.the-variants.{Idle, Mean}
 use Rattle.grammar.specs.declared.Report.{Report}
@@ -65,19 +66,15 @@ pub record CleanCycles (o c m : ℕ) (ms : List Move) (cs : List Span) : Type 0 
 unfoldable pub wrapped : ℕ → ℕ → ℕ
 wrapped a b = (b + 4294967296 - a) % 4294967296
 
--- The tick unit in ms: "0 one ms, 1 ten ms".
-unfoldable pub unitMs : ℕ → ℕ
-unitMs zero = 1
-unitMs (suc u) = 10
-
--- The time of a cycle in ms: "tick b minus tick a modulo 2^32, times ten for unit 1".
-unfoldable pub cycleMs : ℕ → List ℕ → Span → ℕ
-cycleMs unit ticks s = wrapped (getD ticks (s .opened) 0) (getD ticks (s .closed) 0) * unitMs unit
+-- The time of a cycle in ms: "tick b minus tick a modulo 2^32". (01 goes on: "times ten for unit 1", of which by request (viii) no pace
+-- comes.)
+unfoldable pub cycleMs : List ℕ → Span → ℕ
+cycleMs ticks s = wrapped (getD ticks (s .opened) 0) (getD ticks (s .closed) 0)
 
 -- "The sum of their times in ms."
-unfoldable pub totalMs : ℕ → List ℕ → List Span → ℕ
-totalMs unit ticks [] = 0
-totalMs unit ticks (s ∷ ss) = cycleMs unit ticks s + totalMs unit ticks ss
+unfoldable pub totalMs : List ℕ → List Span → ℕ
+totalMs ticks [] = 0
+totalMs ticks (s ∷ ss) = cycleMs ticks s + totalMs ticks ss
 
 -- "A pace: idle when the count is 0, else the mean in ms as an f64, sum and count each converted .. and divided once."
 unfoldable pub paceOf : ℕ → ℕ → Pace
@@ -87,26 +84,30 @@ paceOf (suc n) sum = Mean (div binary64 (ofInt binary64 (pos sum)) (ofInt binary
 -- ---- The report
 
 -- The report of a list of clean cycles.
-unfoldable pub reportOf : ℕ → List ℕ → List Span → Report
-reportOf unit ticks cs =
-    record { count = length cs; sum = totalMs unit ticks cs; pace = paceOf (length cs) (totalMs unit ticks cs) }
+unfoldable pub reportOf : List ℕ → List Span → Report
+reportOf ticks cs = record { count = length cs; sum = totalMs ticks cs; pace = paceOf (length cs) (totalMs ticks cs) }
 
 -- The report of the moves with the counts of their parse, or the refusal.
 pub data ReportsBy (M : Meaning) (ticks : List ℕ) : Outcome (List Move) → Outcome (Report × Counts) → Type 0 where
   paced : {ms : List Move} {cs : List Span} → CleanCycles (M .opening) (M .closing) (M .restart) ms cs
-      → ReportsBy M ticks (given ms) (given (reportOf (M .unit) ticks cs, countsOf ms))
+      → ReportsBy M ticks (given ms) (given (reportOf ticks cs, countsOf ms))
   unpaced : {r : Refusal} → ReportsBy M ticks (refused r) (refused r)
 
 -- That by the words.
 abbrev pub Reports : List ℕ → List ℕ → Outcome (List Move) → Outcome (Report × Counts) → Type 0
 Reports ws = ReportsBy (meaningOf ws)
 
--- The report's answer and the two buffers: it "runs the parse itself" and leaves in them what the parse leaves. It asks besides that
--- "ticks and tokens" do not "differ in number" under refusal 10.
+-- What the report asks besides: "ticks and tokens" do not "differ in number" under refusal 10; and by request (viii) of 02 the unit is not
+-- 1, "16 .. after 10 and before 11", so before the run.
+abbrev pub timed : ℕ → List ℕ → List ℕ → Asks
+timed unit log ticks =
+    record { under-10 = length ticks ≡ length log; behind-10 = (Hundredths unless (unit ≡ 1 → ⊥)) ∷ [] }
+
+-- The report's answer and the two buffers: it "runs the parse itself" and leaves in them what the parse leaves.
 pub record ReportedBy (M : Meaning) (log ticks : List ℕ) (editRoom ruleRoom : ℕ) (answer : Outcome (Report × Counts)) (es rs : List ℕ)
     : Type 0 where
   pub outcome : Outcome (List Move)
-  pub parses : ParsesBy (length ticks ≡ length log) M log editRoom ruleRoom outcome es rs
+  pub parses : ParsesBy (timed (M .unit) log ticks) M log editRoom ruleRoom outcome es rs
   pub reports : ReportsBy M ticks outcome answer
 
 -- The report's answer to the words.

@@ -1,5 +1,5 @@
 -- Document 01, "Refusal numbers": the numbers, and "the lowest applicable number .. is given, each tested over the whole
--- input before the next".
+-- input before the next". Where document 02 gives a refusal another place than its number's, its list of conditions has it there.
 use Prim.Native.Nat.{ℕ}
 use mathlib.Core.Path.{_≡_}
 use mathlib.Core.List.{List, [], _∷_}
@@ -22,6 +22,7 @@ use Rattle.grammar.specs.declared.Refusal.the-variants.{
   BadCount,
   ShortBytes,
   ShortTokens,
+  Hundredths,
   ShortDesk,
 }
 
@@ -42,6 +43,7 @@ numberOf NoRoom = 12
 numberOf BadCount = 13
 numberOf ShortBytes = 14
 numberOf ShortTokens = 15
+numberOf Hundredths = 16
 numberOf ShortDesk = 23
 
 -- What an answer is: values, or a refusal, which "returns its number only".
@@ -63,7 +65,7 @@ unfoldable pub FirstFailing : List Condition → Option Refusal → Type 0
 FirstFailing [] o = o ≡ none
 FirstFailing (c ∷ cs) o = ((c .holds → ⊥) × (o ≡ some (c .refusal))) ⊎ (c .holds × FirstFailing cs o)
 
--- The lowest refusal that applies, of conditions in the order of their numbers. Each is its whole condition, so each is tested
--- over the whole input before the next.
+-- The lowest refusal that applies, of conditions in the order in which they are tested. Each is its whole condition, so each is
+-- tested over the whole input before the next.
 pub record Lowest (cs : List Condition) (o : Option Refusal) : Type 0 where
   pub is : FirstFailing cs o

@@ -165,12 +165,24 @@ pub record LogBelow (T : ℕ) (log : List ℕ) : Type 0 where
 abbrev pub LogFits : List ℕ → List ℕ → Type 0
 LogFits ws log = LogBelow (terminalCount ws) log
 
--- The conditions before a run, refusals 5 to 10: those of the grammar check, then the log, with what else its caller asks under 10.
-abbrev pub conditionsBefore : Meaning → List ℕ → Type 0 → List Condition
-conditionsBefore M log Asked = M .conditions ++ ((BadLog unless (LogBelow (M .terminals) log × Asked)) ∷ [])
+-- What a caller of the run asks besides, before it: under refusal 10, and in conditions that are tested behind that.
+pub record Asks : Type 1 where
+  pub under-10 : Type 0
+  pub behind-10 : List Condition
+
+-- Something under 10 only; the parser asks nothing.
+abbrev pub only10 : Type 0 → Asks
+only10 P = record { under-10 = P; behind-10 = [] }
+
+abbrev pub noMore : Asks
+noMore = only10 (Unit {0})
+
+-- The conditions before a run: refusals 5 to 9, those of the grammar check; then 10, the log; each with what else its caller asks.
+abbrev pub conditionsBefore : Meaning → List ℕ → Asks → List Condition
+conditionsBefore M log Asked = M .conditions ++ ((BadLog unless (LogBelow (M .terminals) log × Asked .under-10)) ∷ Asked .behind-10)
 
 -- Those of the words.
-abbrev pub runConditions : List ℕ → List ℕ → Type 0 → List Condition
+abbrev pub runConditions : List ℕ → List ℕ → Asks → List Condition
 runConditions ws log Asked = conditionsBefore (meaningOf ws) log Asked
 
 -- What a run comes to: its moves; or the lowest refusal that applies before it; or the refusal that it meets.
@@ -203,27 +215,27 @@ left wordsOf room (refused r) = cleared room
 
 -- What a log comes to and leaves in the edit buffer (es) and the rule buffer (rs), for every list of words, every log and all lengths
 -- of the buffers.
-pub record ParsesBy (Asked : Type 0) (M : Meaning) (log : List ℕ) (editRoom ruleRoom : ℕ) (outcome : Outcome (List Move)) (es rs : List ℕ)
+pub record ParsesBy (Asked : Asks) (M : Meaning) (log : List ℕ) (editRoom ruleRoom : ℕ) (outcome : Outcome (List Move)) (es rs : List ℕ)
     : Type 0 where
   pub settled : Settled (conditionsBefore M log Asked) (RunBy (M .grammar) log editRoom ruleRoom) outcome
   pub leaves-edits : es ≡ left (λ ms. editWords (edits ms)) editRoom outcome
   pub leaves-rules : rs ≡ left ruleNumbers ruleRoom outcome
 
 -- What it comes to by the words.
-abbrev pub Parses : Type 0 → List ℕ → List ℕ → ℕ → ℕ → Outcome (List Move) → List ℕ → List ℕ → Type 0
+abbrev pub Parses : Asks → List ℕ → List ℕ → ℕ → ℕ → Outcome (List Move) → List ℕ → List ℕ → Type 0
 Parses Asked ws = ParsesBy Asked (meaningOf ws)
 
 -- The answer and the two buffers of a parse that asks besides for `Asked`.
-pub record ParsedBy (Asked : Type 0) (M : Meaning) (log : List ℕ) (editRoom ruleRoom : ℕ) (answer : Outcome Counts) (es rs : List ℕ)
+pub record ParsedBy (Asked : Asks) (M : Meaning) (log : List ℕ) (editRoom ruleRoom : ℕ) (answer : Outcome Counts) (es rs : List ℕ)
     : Type 0 where
   pub outcome : Outcome (List Move)
   pub parses : ParsesBy Asked M log editRoom ruleRoom outcome es rs
   pub answers : answer ≡ answered outcome
 
 -- Those of the words.
-abbrev pub ParsedAsking : Type 0 → List ℕ → List ℕ → ℕ → ℕ → Outcome Counts → List ℕ → List ℕ → Type 0
+abbrev pub ParsedAsking : Asks → List ℕ → List ℕ → ℕ → ℕ → Outcome Counts → List ℕ → List ℕ → Type 0
 ParsedAsking Asked ws = ParsedBy Asked (meaningOf ws)
 
 -- The parser's answer and its two buffers: it asks no more.
 abbrev pub Parsed : List ℕ → List ℕ → ℕ → ℕ → Outcome Counts → List ℕ → List ℕ → Type 0
-Parsed = ParsedAsking (Unit {0})
+Parsed = ParsedAsking noMore

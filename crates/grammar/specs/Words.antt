@@ -41,9 +41,14 @@ opening ws = word ws 3
 unfoldable pub closing : List ℕ → ℕ
 closing ws = word ws 4
 
--- The tick unit: 0 one ms, 1 ten ms.
+-- The tick unit: 0 one ms, 1 ten ms. By request (viii) of 02 no pace comes of unit 1.
 unfoldable pub tickUnit : List ℕ → ℕ
 tickUnit ws = word ws 5
+
+-- Request (viii): "unit 1, that is, six words or more with word 5 equal to 1", whatever else the words are.
+pub record UnitOne (ws : List ℕ) : Type 0 where
+  pub six : 6 ≤ length ws
+  pub one : tickUnit ws ≡ 1
 
 -- "The restart mark, 1..T-1, or 0 for none." The short header has none.
 unfoldable pub restartMark : List ℕ → ℕ

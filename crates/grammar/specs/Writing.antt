@@ -1,12 +1,13 @@
--- Document 02, request (i): "Take words and a byte buffer and write the blocks of 01."; and refusals 13 and 14. The words are any numbers
--- below 65,536: nothing asks that they are a grammar.
+-- Document 02, request (i): "Take words and a byte buffer and write the blocks of 01."; and refusals 13, 16 and 14. The words are any
+-- numbers below 65,536: nothing asks that they are a grammar.
 use Prim.Native.Nat.{ℕ, zero, suc, _+_, _*_, _/_, _%_, _≤_, _<_}
 use mathlib.Core.List.{List, [], _∷_, _++_}
 use lib.ListN.{length, take, drop}
+use Rattle.grammar.specs.Words.{UnitOne}
 use Rattle.grammar.specs.Buffers.{filled, Fills}
 use Rattle.grammar.specs.File.{blockCheck}
 use Rattle.grammar.specs.Refusals.{Condition, _unless_, Outcome}
-use Rattle.grammar.specs.declared.Refusal.the-variants.{BadCount, ShortBytes}
+use Rattle.grammar.specs.declared.Refusal.the-variants.{BadCount, Hundredths, ShortBytes}
 
 -- Numbers of two bytes each: "all numbers are little endian".
 unfoldable pub bytesOf : List ℕ → List ℕ
@@ -43,10 +44,14 @@ pub record WordCount (n : ℕ) : Type 0 where
   pub some : 0 < n
   pub most : n ≤ 2783
 
--- The writer's conditions; `room` is the byte buffer's length.
+-- The writer's conditions. By request (viii) "the writer refuses unit 1", and 16 stands "after 13 and before 14". `room` is the byte
+-- buffer's length.
 abbrev pub writeConditions : List ℕ → ℕ → List Condition
 writeConditions ws room =
-    (BadCount unless WordCount (length ws)) ∷ (ShortBytes unless (512 * blocksFor (length ws) ≤ room)) ∷ []
+    (BadCount unless WordCount (length ws))
+    ∷ (Hundredths unless (UnitOne ws → ⊥))
+    ∷ (ShortBytes unless (512 * blocksFor (length ws) ≤ room))
+    ∷ []
 
 -- "Bytes behind the last block become zero." The writer's answer, a number of bytes or a refusal, and the buffer afterwards.
 pub record FileWritten (ws : List ℕ) (room : ℕ) (answer : Outcome ℕ) (buffer : List ℕ) : Type 0 where

@@ -4,3 +4,4 @@ pub mod Cases
 pub mod Compared
 pub mod Twelve
 pub mod Bound
+pub mod Hundredths

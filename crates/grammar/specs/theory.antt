@@ -55,7 +55,9 @@ pub mod SameCycles
 pub mod Rebuilt
 pub mod Kept
 pub mod Told
+pub mod FewCycles
 pub mod Refused
+pub mod Unpaced
 pub mod Desk
 pub mod Strings
 pub mod Marking

@@ -34,6 +34,8 @@ pub enum Refusal {
     ShortBytes,
     // 15: the token buffer is shorter than the repaired log in marks alone.
     ShortTokens,
+    // 16: the tick unit is 1, of which no pace comes and which is not written.
+    Hundredths,
     // 23: a buffer of the setup desk has fewer words than there are nonterminals.
     ShortDesk,
 }
@@ -58,6 +60,7 @@ pub fn number_of(refusal: Refusal) -> u32
         Refusal::BadCount => 13,
         Refusal::ShortBytes => 14,
         Refusal::ShortTokens => 15,
+        Refusal::Hundredths => 16,
         Refusal::ShortDesk => 23,
     }
 }

@@ -12,7 +12,7 @@ use lib.Seq.{take-all, take-take, getD-take, length-take-le}
 use Rattle.grammar.specs.File.{pairAt, FileRead}
 use Rattle.grammar.specs.Moves.{Move}
 use Rattle.grammar.specs.Grammar.{grammarConditions}
-use Rattle.grammar.specs.Run.{LogFits, LogBelow, runConditions, Settled, Parses}
+use Rattle.grammar.specs.Run.{LogFits, LogBelow, Asks, only10, runConditions, Settled, Parses}
 use Rattle.grammar.specs.Pace.{Reports, Reported, ReportsBy}
 use Rattle.grammar.specs.Refusals.{Outcome, given, refused}
 use Rattle.grammar.specs.Listing.{
@@ -29,7 +29,7 @@ use Rattle.grammar.specs.declared.Refusal.{Refusal}
 use Rattle.grammar.specs.declared.Refusal.the-variants.{BadLog}
 use Rattle.grammar.specs.declared.Report.{Report}
 use Rattle.grammar.specs.theory.Answers.{log-held}
-use Rattle.grammar.specs.theory.Conditions.{lowest-last}
+use Rattle.grammar.specs.theory.Conditions.{lowest-from}
 
 pub entries-length : (value : ℕ → ℕ) (at n : ℕ) → length (entriesAt value at n) ≡ n
 unfolding entriesAt
@@ -41,29 +41,31 @@ entries-length value at (suc n) = ap suc (entries-length value (at + 6) n)
 pub too-long : {A : Type 0} {T : ℕ} {log : List ℕ} → 4096 < length log → LogBelow T log → A
 too-long long fits = absurd (omega (arith, fits .count))
 
-settled-other : {Asked Asked′ : Type 0} {ws log log′ : List ℕ} {Runs Runs′ : List Move → Option Refusal → Type 0}
+settled-other : {Asked Asked′ : Asks} {ws log log′ : List ℕ} {Runs Runs′ : List Move → Option Refusal → Type 0}
     {o : Outcome (List Move)} → 4096 < length log → 4096 < length log′ → Settled (runConditions ws log Asked) Runs o
     → Settled (runConditions ws log′ Asked′) Runs′ o
 settled-other long long′ (Settled.whole l r) = too-long long (log-held l .0)
-settled-other {ws = ws} long long′ (Settled.before l) =
-    Settled.before (lowest-last (grammarConditions ws) BadLog (λ h. too-long long (h .0)) (λ h. too-long long′ (h .0)) l)
+settled-other {Asked} {Asked′} {ws} long long′ (Settled.before l) =
+    Settled.before
+    (lowest-from (grammarConditions ws) BadLog (Asked .behind-10) (Asked′ .behind-10) (λ h. too-long long (h .0))
+    (λ h. too-long long′ (h .0)) (λ h. too-long long (h .0)) l)
 settled-other long long′ (Settled.within l r) = too-long long (log-held l .0)
 
-pub parses-other : {Asked Asked′ : Type 0} {ws log log′ x y : List ℕ} {editRoom ruleRoom : ℕ} {o : Outcome (List Move)}
+pub parses-other : {Asked Asked′ : Asks} {ws log log′ x y : List ℕ} {editRoom ruleRoom : ℕ} {o : Outcome (List Move)}
     → 4096 < length log → 4096 < length log′ → Parses Asked ws log editRoom ruleRoom o x y → Parses Asked′ ws log′ editRoom ruleRoom o x y
 parses-other long long′ p =
     record { settled = settled-other long long′ (p .settled); leaves-edits = p .leaves-edits; leaves-rules = p .leaves-rules }
 
-settled-held : {Asked : Type 0} {ws log : List ℕ} {Runs : List Move → Option Refusal → Type 0} {ms : List Move}
-    → Settled (runConditions ws log Asked) Runs (given ms) → LogFits ws log × Asked
+settled-held : {Asked : Asks} {ws log : List ℕ} {Runs : List Move → Option Refusal → Type 0} {ms : List Move}
+    → Settled (runConditions ws log Asked) Runs (given ms) → LogFits ws log × Asked .under-10
 settled-held (Settled.whole l r) = log-held l
 
 -- A log that is parsed fits, with what else is asked.
-pub parsed-held : {Asked : Type 0} {ws log x y : List ℕ} {editRoom ruleRoom : ℕ} {ms : List Move}
-    → Parses Asked ws log editRoom ruleRoom (given ms) x y → LogFits ws log × Asked
+pub parsed-held : {Asked : Asks} {ws log x y : List ℕ} {editRoom ruleRoom : ℕ} {ms : List Move}
+    → Parses Asked ws log editRoom ruleRoom (given ms) x y → LogFits ws log × Asked .under-10
 parsed-held p = settled-held (p .settled)
 
-reports-fits : {Asked : Type 0} {ws log ticks : List ℕ} {Runs : List Move → Option Refusal → Type 0} {o : Outcome (List Move)}
+reports-fits : {Asked : Asks} {ws log ticks : List ℕ} {Runs : List Move → Option Refusal → Type 0} {o : Outcome (List Move)}
     {a : Report × Counts} → Reports ws ticks o (given a) → Settled (runConditions ws log Asked) Runs o → LogFits ws log
 reports-fits (ReportsBy.paced c) (Settled.whole l r) = log-held l .0
 
@@ -72,7 +74,7 @@ pub reported-fits : {ws log ticks x y : List ℕ} {editRoom ruleRoom : ℕ} {a :
     → Reported ws log ticks editRoom ruleRoom (given a) x y → LogFits ws log
 reported-fits p = reports-fits (p .reports) (p .parses .settled)
 
-reports-other : {Asked : Type 0} {ws log ticks ticks′ : List ℕ} {Runs : List Move → Option Refusal → Type 0}
+reports-other : {Asked : Asks} {ws log ticks ticks′ : List ℕ} {Runs : List Move → Option Refusal → Type 0}
     {o : Outcome (List Move)} {a : Outcome (Report × Counts)} → 4096 < length log → Settled (runConditions ws log Asked) Runs o
     → Reports ws ticks o a → Reports ws ticks′ o a
 reports-other {ticks = ticks} long s (ReportsBy.paced c) = too-long long (reports-fits {ticks = ticks} (ReportsBy.paced c) s)
@@ -103,14 +105,14 @@ reported-front {ws} {log} {ticks} {x} {y} {editRoom} {ruleRoom} {a} room enough 
 -- The same of a parse that asks for as many ticks as tokens.
 pub parses-front : {ws log x y : List ℕ} {editRoom ruleRoom : ℕ} {o : Outcome (List Move)} (room : ℕ) (ticks : List ℕ) → 4096 < room
     → length ticks ≤ length log
-    → Parses (length (take room ticks) ≡ length (take room log)) ws (take room log) editRoom ruleRoom o x y
-    → Parses (length ticks ≡ length log) ws log editRoom ruleRoom o x y
+    → Parses (only10 (length (take room ticks) ≡ length (take room log))) ws (take room log) editRoom ruleRoom o x y
+    → Parses (only10 (length ticks ≡ length log)) ws log editRoom ruleRoom o x y
 parses-front {ws} {log} {x} {y} {editRoom} {ruleRoom} {o} room ticks enough fewer p =
     dite (decLt room (length log))
     (λ more. parses-other (omega (arith, length-take-le room log (omega arith))) (omega arith) p)
     (λ less.
-    subst (λ l. Parses (length ticks ≡ length l) ws l editRoom ruleRoom o x y) (take-all room log (omega arith))
-    (subst (λ t. Parses (length t ≡ length (take room log)) ws (take room log) editRoom ruleRoom o x y)
+    subst (λ l. Parses (only10 (length ticks ≡ length l)) ws l editRoom ruleRoom o x y) (take-all room log (omega arith))
+    (subst (λ t. Parses (only10 (length t ≡ length (take room log))) ws (take room log) editRoom ruleRoom o x y)
     (take-all room ticks (omega arith)) p))
 
 -- ---- The first 30,216 bytes, or more, are enough

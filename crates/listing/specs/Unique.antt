@@ -9,7 +9,8 @@ use lib.Seq.{take-all, length-take-le}
 use Rattle.grammar.specs.File.{FileRead}
 use Rattle.grammar.specs.Moves.{Move, edits}
 use Rattle.grammar.specs.Run.{Parses}
-use Rattle.grammar.specs.Pace.{Reported}
+use Rattle.grammar.specs.Words.{tickUnit}
+use Rattle.grammar.specs.Pace.{timed, Reported}
 use Rattle.grammar.specs.Refusals.{Outcome, given, refused, numberOf}
 use Rattle.grammar.specs.theory.Outcomes.{given-refused, given-same, refused-same}
 use Rattle.grammar.specs.Listing.{Printed, refusedLine, listing, tokensOf}
@@ -41,7 +42,7 @@ module _ {ws vs log ticks x y u v : List ℕ} {editRoom ruleRoom : ℕ} {a b : O
   same-moves : {ms ns : List Move} → p .outcome ≡ given ms → q .outcome ≡ given ns → ms ≡ ns
   same-moves e f =
       let other =
-      subst (λ ws. Parses (length ticks ≡ length log) ws log editRoom ruleRoom (q .outcome) y v) (sym same) (q .parses) in
+      subst (λ ws. Parses (timed (tickUnit ws) log ticks) ws log editRoom ruleRoom (q .outcome) y v) (sym same) (q .parses) in
       given-same (sym e ∙ (parses-unique (p .parses) other .0 ∙ f))
 
 counted-unique : {input : List ℕ} {o q : Outcome ℕ} → InputCounted input o → InputCounted input q → o ≡ q

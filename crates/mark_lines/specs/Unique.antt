@@ -7,7 +7,7 @@ use lib.ListN.{length}
 use Rattle.grammar.specs.Moves.{Move}
 use Rattle.grammar.specs.Marks.{Mark, MarksOf}
 use Rattle.grammar.specs.MarkLines.{MarksPrinted, markListing}
-use Rattle.grammar.specs.Run.{Parses}
+use Rattle.grammar.specs.Run.{Asks, Parses}
 use Rattle.grammar.specs.Refusals.{Outcome, numberOf}
 use Rattle.grammar.specs.Listing.{refusedLine, ticksOf}
 use Rattle.grammar.specs.theory.Answers.{parses-unique}
@@ -17,7 +17,7 @@ use Rattle.grammar.specs.theory.Sentences.{file-read-unique}
 use Rattle.listing.specs.Unique.{same-words, read-or-refused}
 
 -- Two parses by the same words come to the same.
-module _ {Asked : Type 0} {ws vs log x y u v : List ℕ} {editRoom ruleRoom : ℕ} {o q : Outcome (List Move)} (same : ws ≡ vs)
+module _ {Asked : Asks} {ws vs log x y u v : List ℕ} {editRoom ruleRoom : ℕ} {o q : Outcome (List Move)} (same : ws ≡ vs)
     (p : Parses Asked ws log editRoom ruleRoom o x u) (r : Parses Asked vs log editRoom ruleRoom q y v) where
   same-outcome : o ≡ q
   same-outcome = parses-unique p (subst (λ ws. Parses Asked ws log editRoom ruleRoom q y v) (sym same) r) .0

@@ -11,7 +11,7 @@ use Rattle.grammar.specs.Words.{END}
 use Rattle.grammar.specs.Buffers.{filled, cleared}
 use Rattle.grammar.specs.Moves.{Move, edits, editWords}
 use Rattle.grammar.specs.Marks.{Mark, tokenOf, MarksOf, Marks, MarksAnswer, MarksBy}
-use Rattle.grammar.specs.Run.{RunOf, Parses, ParsedAsking, countsOf}
+use Rattle.grammar.specs.Run.{Asks, only10, RunOf, Parses, ParsedAsking, countsOf}
 use Rattle.grammar.specs.Refusals.{Outcome, given, refused}
 use Rattle.grammar.specs.declared.Refusal.{Refusal}
 use Rattle.grammar.specs.declared.Refusal.the-variants.{ShortTokens}
@@ -66,12 +66,12 @@ filled-begins room l = take-at l (replicate (room - length l) 0) (length l) refl
 -- ---- Where the parse answers with counts
 
 -- The run, as the edit buffer has it.
-record Parse (Asked : Type 0) (ws log : List ℕ) (editRoom ruleRoom : ℕ) (counts : Counts) (es rs : List ℕ) : Type 0 where
+record Parse (Asked : Asks) (ws log : List ℕ) (editRoom ruleRoom : ℕ) (counts : Counts) (es rs : List ℕ) : Type 0 where
   moves : List Move
   parses : Parses Asked ws log editRoom ruleRoom (given moves) es rs
   counted : counts ≡ countsOf moves
 
-module _ {Asked : Type 0} {ws log : List ℕ} {editRoom ruleRoom : ℕ} {es rs : List ℕ} {a : Parsing}
+module _ {Asked : Asks} {ws log : List ℕ} {editRoom ruleRoom : ℕ} {es rs : List ℕ} {a : Parsing}
     (p : ParsedAsking Asked ws log editRoom ruleRoom (parsingOf a) es rs) where
   parse-of : {counts : Counts} → a ≡ parsing.Parsed counts → Parse Asked ws log editRoom ruleRoom counts es rs
   unfolding parsingOf
@@ -197,13 +197,13 @@ same-words log (Mark.added t ∷ xs) f =
     ap₂ (λ x l. x ∷ l) same (same-words log xs (λ q u m. f q u (List·Memᴰ·tail m)))
 
 -- So where the log itself stands for its places and nothing is raised, the result is the tokens; and what is asked holds.
-pub marks-plain : {Asked : Type 0} {ws log : List ℕ} {editRoom ruleRoom tokenRoom : ℕ} {a : Outcome (Counts × ℕ)} {x u s : List ℕ} → Asked
-    → Marks (wordBy log 0) Asked ws log editRoom ruleRoom tokenRoom a x u s → MarksAnswer ws log editRoom ruleRoom tokenRoom a x u s
-marks-plain held (MarksBy.unparsed p) = MarksBy.unparsed (parses-asking (λ q. tt) (λ q. held) p)
-marks-plain held (MarksBy.short p m l) = MarksBy.short (parses-asking (λ q. tt) (λ q. held) p) m l
+pub marks-plain : {P : Type 0} {ws log : List ℕ} {editRoom ruleRoom tokenRoom : ℕ} {a : Outcome (Counts × ℕ)} {x u s : List ℕ} → P
+    → Marks (wordBy log 0) (only10 P) ws log editRoom ruleRoom tokenRoom a x u s → MarksAnswer ws log editRoom ruleRoom tokenRoom a x u s
+marks-plain held (MarksBy.unparsed p) = MarksBy.unparsed (parses-asking (λ q. tt) (λ q. held) (λ q l. l) p)
+marks-plain held (MarksBy.short p m l) = MarksBy.short (parses-asking (λ q. tt) (λ q. held) (λ q l. l) p) m l
 marks-plain {ws = ws} {log = log} {editRoom = editRoom} {ruleRoom = ruleRoom} {tokenRoom = tokenRoom} held
     (MarksBy.whole {ms = ms} {xs = xs} {es = es} {rs = rs} p m l) =
     subst
     (λ t. MarksAnswer ws log editRoom ruleRoom tokenRoom (given (countsOf ms, length xs)) es rs (filled tokenRoom t))
     (sym (same-words log xs (λ q u k. marks-kept p m q u k .1)))
-    (MarksBy.whole (parses-asking (λ q. tt) (λ q. held) p) m l)
+    (MarksBy.whole (parses-asking (λ q. tt) (λ q. held) (λ q l. l) p) m l)

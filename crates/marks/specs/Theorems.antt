@@ -4,6 +4,7 @@ use Prim.Native.Nat.{ℕ}
 use mathlib.Core.Path.{_≡_, refl, sym, ap, ap₂}
 use mathlib.Core.List.{List}
 use Rattle.grammar.specs.Marks.{Mark, Marks, MarksAnswer}
+use Rattle.grammar.specs.Run.{Asks}
 use Rattle.grammar.specs.declared.Counts.{Counts}
 use Rattle.grammar.specs.theory.MarkAnswers as MarkAnswers
 use Rattle.grammar.specs.theory.Outcomes.{given-refused, given-same, refused-same}
@@ -20,7 +21,7 @@ same-marking (Refused r) (Marked d m) e = absurd (given-refused refl (sym e))
 same-marking (Refused r) (Refused q) e = ap Refused (refused-same e)
 
 -- Of `marks_as`, whatever stands for a mark,
-pub marks-as-unique : (wordOf : Mark → ℕ) (Asked : Type 0) {ws log x y u v s t : List ℕ} {editRoom ruleRoom tokenRoom : ℕ} (a b : Marking)
+pub marks-as-unique : (wordOf : Mark → ℕ) (Asked : Asks) {ws log x y u v s t : List ℕ} {editRoom ruleRoom tokenRoom : ℕ} (a b : Marking)
     → Marks wordOf Asked ws log editRoom ruleRoom tokenRoom (markingOf a) x u s
     → Marks wordOf Asked ws log editRoom ruleRoom tokenRoom (markingOf b) y v t → (a ≡ b) × (x ≡ y) × (u ≡ v) × (s ≡ t)
 marks-as-unique wordOf Asked a b p q =

@@ -6,6 +6,7 @@ ghost use Prim.Native.Nat.{_≤_, _<_};
 ghost use lib.ListN.{length};
 ghost use Rattle.base.specs.Telling.{Tells};
 ghost use Rattle.grammar.specs.Marks.{Marks, MarksAnswer};
+ghost use Rattle.grammar.specs.Run.{only10};
 ghost use Rattle.marks.specs.Answer.{Named, PutOf, markingOf, wordBy};
 ghost use Rattle.marks.specs.Marking.{
   CanAdd,
@@ -22,6 +23,7 @@ ghost use Rattle.marks.specs.Marking.{
 ghost use Rattle.marks.specs.Restoring.{addedBy, behindBy, needed, recordsFrom};
 use grammar::Counts;
 use grammar::Refusal;
+use parser::Asking;
 use parser::Parsing;
 
 // The answer: the counts of the parse and the number of tokens, or a refusal. `markingOf` of specs/Answer.antt says what each stands for.
@@ -68,13 +70,18 @@ pub fn marks_as(
     tokens: &mut [u16],
 ) -> Marking
     requires { ⌜ Named (now log) (now kept) raise ⌝ }
-    ensures { λ r. ⌜ Marks (wordBy (now (kept .entry)) raise) (asked ≡ true) (now (words .entry)) (now (log .entry))
+    ensures { λ r. ⌜ Marks (wordBy (now (kept .entry)) raise) (only10 (asked ≡ true)) (now (words .entry)) (now (log .entry))
         (length (now (edits .entry))) (length (now (rules .entry))) (length (now (tokens .entry))) (markingOf r) (now (edits .exit))
         (now (rules .exit)) (now (tokens .exit)) ⌝ }
 {
     let mut prices = [0u32; 256];
     let mut sides = [0u64; 512];
-    let parsing = parser::parse_tabled(words, log, asked, &mut prices, &mut sides, edits, rules);
+    // It times nothing, so any unit will do.
+    let asking = Asking {
+        timed: asked,
+        paced: true,
+    };
+    let parsing = parser::parse_tabled(words, log, asking, &mut prices, &mut sides, edits, rules);
     match parsing {
         Parsing::Parsed(counts) => {
             let result = put_marks(

@@ -1,31 +1,30 @@
 -- What the pass over the places keeps: the cursor stands before the records of the place, the cycles are few, and the watch
 -- stands at the place, whichever run it was that left these edits.
-use Prim.Native.Nat.{ℕ, _+_, _*_, _≤_, _<_}
+use Prim.Native.Nat.{ℕ, _+_, _≤_, _<_}
 use mathlib.Core.Path.{_≡_, refl, sym, ap, _∙_, subst}
 use mathlib.Core.Bool.{Bool, true, false, not, _&&_, _||_, false≢true}
 use mathlib.Core.List.{List}
-use native.Mathlib.Nat.{mul-le-mul}
 use native.Mathlib.Omega.{arith}
 use lib.ListN.{length, getD}
 use lib.Dec.{eqb}
 use borrow.Author.Tests.{eqb-true}
-use Rattle.grammar.specs.Words.{opening, closing, restartMark, tickUnit}
+use Rattle.grammar.specs.Words.{opening, closing, restartMark}
 use Rattle.grammar.specs.Moves.{Move}
 use Rattle.grammar.specs.Run.{countsOf}
-use Rattle.grammar.specs.Pace.{Reports, paceOf, unitMs}
+use Rattle.grammar.specs.Pace.{Reports, paceOf}
 use Rattle.grammar.specs.Refusals.{given}
 use Rattle.grammar.specs.declared.Pace.{Pace}
 use Rattle.pace.specs.Watch.{Cursor, Stands, Few, Small, Lent, Ran, Finds, marksOf, passedBy}
 use Rattle.pace.specs.Standing.{Standing, standing-start, standing-next}
-use Rattle.pace.specs.Ended.{FoundBy, kept-tells, spoils-tells, marks-apart, found-report}
-use Rattle.pace.specs.Few.{few-start, few-next, few-small, unit-most}
+use Rattle.pace.specs.Ended.{kept-tells, spoils-tells, marks-apart, found-report}
+use Rattle.pace.specs.Few.{few-start, few-next, few-small}
 use Rattle.pace.specs.declared.Marks.{Marks}
 use Rattle.pace.specs.declared.Here.{Here}
 use Rattle.pace.specs.declared.Watch.{Watch}
 
 -- The watch stands at place b.
 abbrev StandsAt : (ws ticks : List ℕ) → List Move → ℕ → Watch → Type 0
-StandsAt ws ticks ms b w = Standing (opening ws) (closing ws) (restartMark ws) (tickUnit ws) ticks ms b b b b w
+StandsAt ws ticks ms b w = Standing (opening ws) (closing ws) (restartMark ws) ticks ms b b b b w
 
 pub record Watching (ws log ticks words : List ℕ) (records : ℕ) (watch : Watch) (at place : ℕ) : Type 0 where
   pub lent : Lent ws log ticks words records
@@ -54,7 +53,7 @@ watching-start {ws} {log} {ticks} {words} {records} lent =
           };
       few = few-start 0;
       standing = λ ms ran.
-          standing-start (opening ws) (closing ws) (restartMark ws) (tickUnit ws) ticks ms (marks-apart ws log words records ms ran) 0;
+          standing-start (opening ws) (closing ws) (restartMark ws) ticks ms (marks-apart ws log words records ms ran) 0;
     }
 
 module _ {ws log ticks words : List ℕ} {records : ℕ} {watch : Watch} {at place : ℕ}
@@ -62,13 +61,9 @@ module _ {ws log ticks words : List ℕ} {records : ℕ} {watch : Watch} {at pla
   pub watching-small : Small watch
   watching-small = few-small (omega (arith, watching .passed, watching .lent .tokens)) (watching .few)
 
-  -- Nothing is lost when the sum in ms becomes an f64.
-  pub watching-exact : {ms : ℕ} → ms ≡ unitMs (tickUnit ws) → watch .sum * ms ≤ 9007199254740992
-  watching-exact e =
-      let s = watching-small in
-      let most : watch .sum ≤ 17587891073025 = omega (arith, s .count, s .sum) in
-      let product = mul-le-mul most (unit-most (tickUnit ws)) in
-      subst (λ (m : ℕ). watch .sum * m ≤ 9007199254740992) (sym e) (omega (arith, product))
+  -- Nothing is lost when the sum becomes an f64.
+  pub watching-exact : watch .sum ≤ 9007199254740992
+  watching-exact = let s = watching-small in omega (arith, s .count, s .sum)
 
   -- A place is passed.
   pub watching-next : {here : Here} {after : Watch} {marks : Marks} → marks ≡ marksOf ws → place < length log
@@ -90,7 +85,7 @@ module _ {ws log ticks words : List ℕ} {records : ℕ} {watch : Watch} {at pla
             (few-next spoils closes opens (getD ticks place 0) watch (watching .few));
         standing = λ ms ran.
             subst (λ w. StandsAt ws ticks ms (place + 1) w) (sym e)
-            (standing-next (opening ws) (closing ws) (restartMark ws) (tickUnit ws) ticks ms (marks-apart ws log words records ms ran) place
+            (standing-next (opening ws) (closing ws) (restartMark ws) ticks ms (marks-apart ws log words records ms ran) place
             spoils closes opens (getD ticks place 0) watch refl
             (opens-marked token (opening ws) (here .deleted) (ran .admitted .fits .low place l))
             (spoils-tells ws log words records ms ran place (here .edited) (here .deleted) l (ran .admitted .fits .low place l)
@@ -101,19 +96,17 @@ module _ {ws log ticks words : List ℕ} {records : ℕ} {watch : Watch} {at pla
       }
 
   -- All places are passed.
-  pub watching-end : {ms : ℕ} {pace : Pace} → length log ≤ place → ms ≡ unitMs (tickUnit ws)
-      → pace ≡ paceOf (watch .count) (watch .sum * ms)
-      → Finds ws log ticks words records (record { count = watch .count; sum = watch .sum * ms; pace = pace })
-  watching-end {ms = m} l u e =
+  pub watching-end : {pace : Pace} → length log ≤ place → pace ≡ paceOf (watch .count) (watch .sum)
+      → Finds ws log ticks words records (record { count = watch .count; sum = watch .sum; pace = pace })
+  watching-end l e =
       let all : place ≡ length log = omega (arith, watching .passed) in
       record {
         of-run = λ ms ran.
             let stood = subst (λ b. StandsAt ws ticks ms b watch) all (watching .standing ms ran) in
             subst
-            (λ p. Reports ws ticks (given ms) (given (record { count = watch .count; sum = watch .sum * m; pace = p }, countsOf ms)))
+            (λ p. Reports ws ticks (given ms) (given (record { count = watch .count; sum = watch .sum; pace = p }, countsOf ms)))
             (sym e)
-            (found-report ws log words records ms ran
-            (subst (λ (n : ℕ). FoundBy ws ticks ms (length log) (watch .count) (watch .sum * n)) (sym u) (stood .found)));
+            (found-report ws log words records ms ran (stood .found));
       }
 
 -- Equal marks are equal records.

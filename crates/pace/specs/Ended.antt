@@ -7,31 +7,25 @@ use mathlib.Core.List.{List, [], _∷_, _++_, List·Memᴰ}
 use mathlib.Core.Logic.{⊎-elim}
 use native.Mathlib.Omega.{arith}
 use lib.ListN.{length, getD, length-append, replicate, List·getD-append}
-use lib.Seq.{getD-append-seam}
 use lib.Dec.{eqb}
 use borrow.Author.Tests.{eqb-true, eqb-false}
 use Rattle.base.specs.Telling.{Tells}
-use Rattle.grammar.specs.Words.{END, Marks, Restart, opening, closing, restartMark, tickUnit}
+use Rattle.grammar.specs.Words.{END, Restart, opening, closing, restartMark}
 use Rattle.grammar.specs.Moves.{Move, edits, editWords}
 use Rattle.grammar.specs.Buffers.{filled}
 use Rattle.grammar.specs.Run.{countsOf}
-use Rattle.grammar.specs.Pace.{Kept, Edited, Span, Clean, CleanCycles, Reports, paceOf, reportOf, ReportsBy}
+use Rattle.grammar.specs.Pace.{Kept, Edited, CleanCycles, Reports, paceOf, reportOf, ReportsBy}
 use Rattle.grammar.specs.Refusals.{given}
+use Rattle.grammar.specs.theory.FewCycles.{closes-within}
 use Rattle.grammar.specs.theory.Places.{Walk, Deleted, walk-run, places-rise, kept-token, kept-apart, kept-or-deleted}
-use Rattle.pace.specs.Order.{below-or-not}
 use Rattle.pace.specs.Recorded.{entry-at, index-of, records-rise}
 use Rattle.pace.specs.Found.{Found}
 use Rattle.pace.specs.Standing.{Spoils}
 use Rattle.pace.specs.Watch.{SomeAt, DeleteAt, kindAt, placeAt, Records, Ran}
 
--- A closing mark is there where an opening mark is.
-closing-marked : {T o c : ℕ} → Marks T o c → 1 ≤ o → 1 ≤ c
-closing-marked (Marks.marked a b d e) l = d
-closing-marked (Marks.unmarked a b) l = absurd (omega arith)
-
 -- The clean cycles of the words' marks that close before b.
 abbrev pub FoundBy : (ws ticks : List ℕ) → List Move → (b count sum : ℕ) → Type 0
-FoundBy ws ticks = Found (opening ws) (closing ws) (restartMark ws) (tickUnit ws) ticks
+FoundBy ws ticks = Found (opening ws) (closing ws) (restartMark ws) ticks
 
 -- A restart mark is not the closing mark.
 restart-other : {T o c m : ℕ} → Restart T o c m → 1 ≤ m → m ≡ c → ⊥
@@ -160,25 +154,11 @@ module _ (ws log words : List ℕ) (records : ℕ) (ms : List Move) (ran : Ran w
 
   -- ---- The end
 
-  -- END is no mark, so no cycle closes there.
-  pub closes-within : (s : Span) → Clean (opening ws) (closing ws) (restartMark ws) ms s → s .closed < length log
-  closes-within s y =
-      let mark = closing-marked (ran .admitted .words .shaped .marks) (y .cycle .marked) in
-      let h = kept-token walk (y .cycle .closes) in
-      ⊎-elim
-      (λ l. l)
-      (λ l.
-      let last : h .behind ≡ length log = omega (arith, h .place, h .within, length-append log (END ∷ [])) in
-      let none : closing ws ≡ END =
-      h .token ∙ (ap (λ (i : ℕ). getD (log ++ (END ∷ [])) i END) last ∙ getD-append-seam log END [] END) in
-      absurd (omega arith))
-      (below-or-not (s .closed) (length log))
-
   -- What was found by the log's end are all clean cycles.
   pub found-all : {count sum : ℕ} {ticks : List ℕ} (f : FoundBy ws ticks ms (length log) count sum)
       → CleanCycles (opening ws) (closing ws) (restartMark ws) ms (f .cycles)
   found-all f =
-      record { ascending = f .ascending; every = λ s y. f .every s y (closes-within s y); only = f .only }
+      record { ascending = f .ascending; every = λ s y. f .every s y (closes-within (ran .admitted) (ran .run) s y); only = f .only }
 
   -- So they make the report.
   pub found-report : {count sum : ℕ} {ticks : List ℕ} → FoundBy ws ticks ms (length log) count sum
@@ -187,5 +167,5 @@ module _ (ws log words : List ℕ) (records : ℕ) (ms : List Move) (ran : Ran w
   found-report {count} {sum} {ticks} f =
       let counts = f .counts in
       let sums = f .sums in
-      let same : reportOf (tickUnit ws) ticks (f .cycles) ≡ record { count = count; sum = sum; pace = paceOf count sum } = cc in
+      let same : reportOf ticks (f .cycles) ≡ record { count = count; sum = sum; pace = paceOf count sum } = cc in
       subst (λ r. Reports ws ticks (given ms) (given (r, countsOf ms))) same (ReportsBy.paced (found-all f))

@@ -1,22 +1,12 @@
 -- Fewer cycles than places: a place closes at most one, and the first none. So the counts stay small.
-use Prim.Native.Nat.{ℕ, zero, suc, _+_, _≤_}
+use Prim.Native.Nat.{ℕ, _+_, _≤_}
 use mathlib.Core.Path.{_≡_, refl}
 use mathlib.Core.Bool.{Bool, true, false, cond, false≢true}
 use native.Mathlib.Omega.{arith}
-use Rattle.grammar.specs.Pace.{wrapped, unitMs}
+use Rattle.grammar.specs.Pace.{wrapped}
+use Rattle.grammar.specs.theory.FewCycles.{time-most}
 use Rattle.pace.specs.Watch.{Few, Small, spoiledBy, closedBy, openedBy, stepBy}
 use Rattle.pace.specs.declared.Watch.{Watch}
-
--- A time is below 2^32 ticks,
-pub time-most : (a b : ℕ) → wrapped a b ≤ 4294967295
-unfolding wrapped
-time-most a b = omega arith
-
--- each of at most 10 ms.
-pub unit-most : (unit : ℕ) → unitMs unit ≤ 10
-unfolding unitMs
-unit-most zero = omega arith
-unit-most (suc u) = omega arith
 
 few-spoiled : {b : ℕ} (edited : Bool) (w : Watch) → Few b w → Few b (cond edited (spoiledBy w) w)
 unfolding spoiledBy

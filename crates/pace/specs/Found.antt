@@ -23,14 +23,14 @@ use Rattle.grammar.specs.Pace.{Span, Clean, Ascending, cycleMs, totalMs}
 use Rattle.pace.specs.Order.{below-or-not}
 
 -- The clean cycles that close before b, their number and the sum of their times.
-pub record Found (o c m unit : ℕ) (ticks : List ℕ) (ms : List Move) (b count sum : ℕ) : Type 0 where
+pub record Found (o c m : ℕ) (ticks : List ℕ) (ms : List Move) (b count sum : ℕ) : Type 0 where
   pub cycles : List Span
   pub ascending : Ascending cycles
   pub every : (s : Span) → Clean o c m ms s → s .closed < b → List·Memᴰ s cycles
   pub only : (s : Span) → List·Memᴰ s cycles → Clean o c m ms s
   pub before : (s : Span) → List·Memᴰ s cycles → s .closed < b
   pub counts : count ≡ length cycles
-  pub sums : sum ≡ totalMs unit ticks cycles
+  pub sums : sum ≡ totalMs ticks cycles
 
 -- ---- One span more
 
@@ -41,11 +41,11 @@ ascending-more (s ∷ []) u a l = Ascending.also (l s (List·Memᴰ·head refl))
 ascending-more (s ∷ v ∷ ss) u (Ascending.also h a) l =
     Ascending.also h (ascending-more (v ∷ ss) u a (λ z m. l z (List·Memᴰ·tail m)))
 
-total-more : (unit : ℕ) (ticks : List ℕ) (ss : List Span) (u : Span)
-    → totalMs unit ticks (ss ++ (u ∷ [])) ≡ totalMs unit ticks ss + cycleMs unit ticks u
+total-more : (ticks : List ℕ) (ss : List Span) (u : Span)
+    → totalMs ticks (ss ++ (u ∷ [])) ≡ totalMs ticks ss + cycleMs ticks u
 unfolding totalMs
-total-more unit ticks [] u = omega arith
-total-more unit ticks (s ∷ ss) u = omega (arith, total-more unit ticks ss u)
+total-more ticks [] u = omega arith
+total-more ticks (s ∷ ss) u = omega (arith, total-more ticks ss u)
 
 last-member : {s u : Span} (ss : List Span) → List·Memᴰ s (ss ++ (u ∷ [])) → List·Memᴰ s ss ⊎ (s ≡ u)
 last-member ss m =
@@ -56,9 +56,9 @@ last-member ss m =
 
 -- ---- One place more
 
-module _ (o c m unit : ℕ) (ticks : List ℕ) (ms : List Move) where
+module _ (o c m : ℕ) (ticks : List ℕ) (ms : List Move) where
   -- Before the first place there is none.
-  pub found-start : Found o c m unit ticks ms 0 0 0
+  pub found-start : Found o c m ticks ms 0 0 0
   unfolding totalMs
   found-start =
       record {
@@ -72,8 +72,8 @@ module _ (o c m unit : ℕ) (ticks : List ℕ) (ms : List Move) where
       }
 
   -- Where no clean cycle closes at b, none more is found.
-  pub found-none : (b : ℕ) {count sum : ℕ} → ((s : Span) → Clean o c m ms s → s .closed ≡ b → ⊥) → Found o c m unit ticks ms b count sum
-      → Found o c m unit ticks ms (b + 1) count sum
+  pub found-none : (b : ℕ) {count sum : ℕ} → ((s : Span) → Clean o c m ms s → s .closed ≡ b → ⊥) → Found o c m ticks ms b count sum
+      → Found o c m ticks ms (b + 1) count sum
   found-none b n f =
       record {
         cycles = f .cycles;
@@ -91,8 +91,8 @@ module _ (o c m unit : ℕ) (ticks : List ℕ) (ms : List Move) where
 
   -- The clean cycle that closes at b is found.
   pub found-one : (b : ℕ) {count sum : ℕ} (u : Span) → u .closed ≡ b → Clean o c m ms u
-      → ((s : Span) → Clean o c m ms s → s .closed ≡ b → s ≡ u) → Found o c m unit ticks ms b count sum
-      → Found o c m unit ticks ms (b + 1) (count + 1) (sum + cycleMs unit ticks u)
+      → ((s : Span) → Clean o c m ms s → s .closed ≡ b → s ≡ u) → Found o c m ticks ms b count sum
+      → Found o c m ticks ms (b + 1) (count + 1) (sum + cycleMs ticks u)
   found-one b u e k one f =
       record {
         cycles = f .cycles ++ (u ∷ []);
@@ -113,5 +113,5 @@ module _ (o c m unit : ℕ) (ticks : List ℕ) (ms : List Move) where
             (λ d. let h : s .closed ≡ u .closed = ap (λ (z : Span). z .closed) d in omega arith)
             (last-member (f .cycles) m);
         counts = omega (arith, f .counts, length-append (f .cycles) (u ∷ []));
-        sums = omega (arith, f .sums, total-more unit ticks (f .cycles) u);
+        sums = omega (arith, f .sums, total-more ticks (f .cycles) u);
       }

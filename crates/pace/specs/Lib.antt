@@ -9,5 +9,4 @@ pub mod Recorded
 pub mod Ended
 pub mod Few
 pub mod Settling
-pub mod Told
 pub mod Exact

@@ -1,6 +1,6 @@
 -- What a watch knows before a place: the clean cycles that close before it, and whether a cycle is open there that is clean
 -- so far. Each place keeps this: what spoils there, then its closing mark, then its opening mark.
-use Prim.Native.Nat.{ℕ, _+_, _*_, _≤_, _<_}
+use Prim.Native.Nat.{ℕ, _+_, _≤_, _<_}
 use mathlib.Core.Path.{_≡_, refl, sym, ap, _∙_, subst}
 use mathlib.Core.Bool.{Bool, true, false, cond, true≢false, false≢true}
 use mathlib.Core.List.{List}
@@ -9,7 +9,7 @@ use native.Mathlib.Omega.{arith}
 use lib.ListN.{getD}
 use Rattle.base.specs.Telling.{Tells}
 use Rattle.grammar.specs.Moves.{Move}
-use Rattle.grammar.specs.Pace.{Kept, Edited, Span, Clean, wrapped, unitMs, cycleMs}
+use Rattle.grammar.specs.Pace.{Kept, Edited, Span, Clean, wrapped, cycleMs}
 use Rattle.pace.specs.Found.{Found, found-start, found-none, found-one}
 use Rattle.pace.specs.Order.{below-or-not, below-next}
 use Rattle.pace.specs.Watch.{spoiledBy, closedBy, openedBy, stepBy}
@@ -31,27 +31,27 @@ pub record OpenAt (o c m : ℕ) (ms : List Move) (x y e a : ℕ) : Type 0 where
   pub unspoiled : (p : ℕ) → a < p → p < e → Spoils m ms p → ⊥
 
 -- The watch stands at b: what it found, with its sum in ticks, and whether a cycle is open.
-pub record Standing (o c m unit : ℕ) (ticks : List ℕ) (ms : List Move) (b x y e : ℕ) (w : Watch) : Type 0 where
-  pub found : Found o c m unit ticks ms b (w .count) (w .sum * unitMs unit)
+pub record Standing (o c m : ℕ) (ticks : List ℕ) (ms : List Move) (b x y e : ℕ) (w : Watch) : Type 0 where
+  pub found : Found o c m ticks ms b (w .count) (w .sum)
   pub begun : w .begun ≡ true → (a : ℕ) × OpenAt o c m ms x y e a × (w .since ≡ getD ticks a 0)
   pub idle : w .begun ≡ false → (a : ℕ) → OpenAt o c m ms x y e a → ⊥
 
 -- ---- The stages
 
-module _ (o c m unit : ℕ) (ticks : List ℕ) (ms : List Move) (apart : 1 ≤ m → (p : ℕ) → Kept ms p c → Kept ms p m → ⊥) where
+module _ (o c m : ℕ) (ticks : List ℕ) (ms : List Move) (apart : 1 ≤ m → (p : ℕ) → Kept ms p c → Kept ms p m → ⊥) where
   -- Nothing is found before the first place.
-  pub standing-start : (since : ℕ) → Standing o c m unit ticks ms 0 0 0 0 (record { begun = false; since = since; count = 0; sum = 0 })
+  pub standing-start : (since : ℕ) → Standing o c m ticks ms 0 0 0 0 (record { begun = false; since = since; count = 0; sum = 0 })
   standing-start since =
       record {
-        found = subst (λ (z : ℕ). Found o c m unit ticks ms 0 0 z) (omega arith) (found-start o c m unit ticks ms);
+        found = found-start o c m ticks ms;
         begun = λ e. absurd (false≢true e);
         idle = λ e a h. omega (arith, h .earlier);
       }
 
   module _ (b : ℕ) where
     -- First what spoils the open cycle at b.
-    stage-spoils : (spoils : Bool) (w : Watch) → Tells (Spoils m ms b) spoils → Standing o c m unit ticks ms b b b b w
-        → Standing o c m unit ticks ms b b b (b + 1) (cond spoils (spoiledBy w) w)
+    stage-spoils : (spoils : Bool) (w : Watch) → Tells (Spoils m ms b) spoils → Standing o c m ticks ms b b b b w
+        → Standing o c m ticks ms b b b (b + 1) (cond spoils (spoiledBy w) w)
     unfolding spoiledBy
     stage-spoils true w t s =
         record {
@@ -141,18 +141,16 @@ module _ (o c m unit : ℕ) (ticks : List ℕ) (ms : List Move) (apart : 1 ≤ m
 
     -- Then the closing mark: it counts the open cycle, and ends it.
     close-begun : (tick : ℕ) (w : Watch) → tick ≡ getD ticks b 0 → Kept ms b c → w .begun ≡ true
-        → Standing o c m unit ticks ms b b b (b + 1) w
-        → Found o c m unit ticks ms (b + 1) (w .count + 1) ((w .sum + wrapped (w .since) tick) * unitMs unit)
+        → Standing o c m ticks ms b b b (b + 1) w
+        → Found o c m ticks ms (b + 1) (w .count + 1) (w .sum + wrapped (w .since) tick)
     unfolding cycleMs
     close-begun tick w t k e s =
         let h = s .begun e in
         let u : Span = record { opened = h .0; closed = b } in
         let since = h .2 in
         let time : wrapped (getD ticks (h .0) 0) (getD ticks b 0) ≡ wrapped (w .since) tick = cc in
-        let total : w .sum * unitMs unit + cycleMs unit ticks u ≡ (w .sum + wrapped (w .since) tick) * unitMs unit =
-        ap (λ (z : ℕ). w .sum * unitMs unit + z * unitMs unit) time ∙ omega arith in
-        subst (λ (z : ℕ). Found o c m unit ticks ms (b + 1) (w .count + 1) z) total
-        (found-one o c m unit ticks ms b u refl (open-clean (h .0) (h .1) k)
+        subst (λ (z : ℕ). Found o c m ticks ms (b + 1) (w .count + 1) (w .sum + z)) time
+        (found-one o c m ticks ms b u refl (open-clean (h .0) (h .1) k)
         (λ v y d.
         let same : v .opened ≡ h .0 = open-one (v .opened) (h .0) (clean-open v y d) (h .1) in
         ap (λ (z : ℕ). record { opened = z; closed = v .closed }) same ∙ ap (λ (z : ℕ). record { opened = h .0; closed = z }) d)
@@ -162,13 +160,13 @@ module _ (o c m unit : ℕ) (ticks : List ℕ) (ms : List Move) (apart : 1 ≤ m
     ended : Kept ms b c → (a : ℕ) → OpenAt o c m ms b (b + 1) (b + 1) a → ⊥
     ended k a h = h .no-closing b (h .earlier) (omega arith) k
 
-    stage-close : (tick : ℕ) (w : Watch) → tick ≡ getD ticks b 0 → Kept ms b c → Standing o c m unit ticks ms b b b (b + 1) w
-        → Standing o c m unit ticks ms (b + 1) b (b + 1) (b + 1) (closedBy tick w)
+    stage-close : (tick : ℕ) (w : Watch) → tick ≡ getD ticks b 0 → Kept ms b c → Standing o c m ticks ms b b b (b + 1) w
+        → Standing o c m ticks ms (b + 1) b (b + 1) (b + 1) (closedBy tick w)
     unfolding closedBy
     stage-close tick w t k s = go (w .begun) refl
       where
         go : (q : Bool) → w .begun ≡ q
-            → Standing o c m unit ticks ms (b + 1) b (b + 1) (b + 1)
+            → Standing o c m ticks ms (b + 1) b (b + 1) (b + 1)
             (cond q
             (record { begun = false; since = w .since; count = w .count + 1; sum = w .sum + wrapped (w .since) tick })
             w)
@@ -180,18 +178,18 @@ module _ (o c m unit : ℕ) (ticks : List ℕ) (ms : List Move) (apart : 1 ≤ m
             }
         go false e =
             record {
-              found = found-none o c m unit ticks ms b (λ v y d. s .idle e (v .opened) (clean-open v y d)) (s .found);
+              found = found-none o c m ticks ms b (λ v y d. s .idle e (v .opened) (clean-open v y d)) (s .found);
               begun = λ f. absurd (true≢false (sym f ∙ e));
               idle = λ f. ended k;
             }
 
     stage-closing : (closes : Bool) (tick : ℕ) (w : Watch) → tick ≡ getD ticks b 0 → Tells (Kept ms b c) closes
-        → Standing o c m unit ticks ms b b b (b + 1) w
-        → Standing o c m unit ticks ms (b + 1) b (b + 1) (b + 1) (cond closes (closedBy tick w) w)
+        → Standing o c m ticks ms b b b (b + 1) w
+        → Standing o c m ticks ms (b + 1) b (b + 1) (b + 1) (cond closes (closedBy tick w) w)
     stage-closing true tick w t k s = stage-close tick w t (k .yes refl) s
     stage-closing false tick w t n s =
         record {
-          found = found-none o c m unit ticks ms b (λ v y d. n .no refl (subst (λ q. Kept ms q c) d (y .cycle .closes))) (s .found);
+          found = found-none o c m ticks ms b (λ v y d. n .no refl (subst (λ q. Kept ms q c) d (y .cycle .closes))) (s .found);
           begun = λ e.
               let h = s .begun e in
               let k = h .1 in (
@@ -254,8 +252,8 @@ module _ (o c m unit : ℕ) (ticks : List ℕ) (ms : List Move) (apart : 1 ≤ m
         }
 
     stage-opening : (opens : Bool) (tick : ℕ) (w : Watch) → tick ≡ getD ticks b 0 → (opens ≡ true → 1 ≤ o) → Tells (Kept ms b o) opens
-        → Standing o c m unit ticks ms (b + 1) b (b + 1) (b + 1) w
-        → Standing o c m unit ticks ms (b + 1) (b + 1) (b + 1) (b + 1) (cond opens (openedBy tick w) w)
+        → Standing o c m ticks ms (b + 1) b (b + 1) (b + 1) w
+        → Standing o c m ticks ms (b + 1) (b + 1) (b + 1) (b + 1) (cond opens (openedBy tick w) w)
     unfolding openedBy
     stage-opening true tick w t l k s =
         record {
@@ -278,8 +276,8 @@ module _ (o c m unit : ℕ) (ticks : List ℕ) (ms : List Move) (apart : 1 ≤ m
 
     -- A place is passed.
     pub standing-next : (spoils closes opens : Bool) (tick : ℕ) (w : Watch) → tick ≡ getD ticks b 0 → (opens ≡ true → 1 ≤ o)
-        → Tells (Spoils m ms b) spoils → Tells (Kept ms b c) closes → Tells (Kept ms b o) opens → Standing o c m unit ticks ms b b b b w
-        → Standing o c m unit ticks ms (b + 1) (b + 1) (b + 1) (b + 1) (stepBy spoils closes opens tick w)
+        → Tells (Spoils m ms b) spoils → Tells (Kept ms b c) closes → Tells (Kept ms b o) opens → Standing o c m ticks ms b b b b w
+        → Standing o c m ticks ms (b + 1) (b + 1) (b + 1) (b + 1) (stepBy spoils closes opens tick w)
     unfolding stepBy
     standing-next spoils closes opens tick w t l x y z s =
         let spoiled = cond spoils (spoiledBy w) w in

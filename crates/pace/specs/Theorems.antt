@@ -1,20 +1,19 @@
 -- The theorems to read first: what document 01, "Pace", promises of a report, for all words, logs, ticks and buffers. `Reported`
--- is the contract of the report; each theorem is proved by citing Told.antt. When it is idle, `Demands` says.
-use Prim.Native.Nat.{ℕ, _-_, _*_, _%_, _≤_, _<_}
-use mathlib.Core.Path.{_≡_, ap}
+-- is the contract of the report. When it is idle, `Demands` says; when it is refused with 16, and what it is at most, `Requests`.
+use Prim.Native.Nat.{ℕ, _-_, _%_, _≤_, _<_}
+use mathlib.Core.Path.{_≡_}
 use mathlib.Core.List.{List}
 use native.Mathlib.Omega.{arith}
 use lib.ListN.{getD}
 use lib.IntN.{pos}
 use lib.Ieee.{binary64, ofInt, toUnsigned}
 use Rattle.grammar.specs.Refusals.{given}
-use Rattle.grammar.specs.Pace.{Span, unitMs, cycleMs, Reported}
+use Rattle.grammar.specs.Pace.{Span, wrapped, cycleMs, Reported}
 use Rattle.grammar.specs.declared.Report.{Report}
 use Rattle.grammar.specs.declared.Counts.{Counts}
 use Rattle.grammar.specs.theory.Sentences as Sentences
 use Rattle.pace.specs.Answer.{pacedOf, paced-same}
-use Rattle.grammar.specs.theory.Told.{told}
-use Rattle.pace.specs.Told.{told-4095, told-most, wrapped-true}
+use Rattle.grammar.specs.theory.Requests.{report-limits}
 use Rattle.pace.specs.Exact.{exact}
 use Rattle.pace.specs.declared.Paced.{Paced}
 
@@ -28,27 +27,17 @@ report-unique r s p q =
 
 module _ {ws log ticks : List ℕ} {editRoom ruleRoom : ℕ} {report : Report} {counts : Counts} {x y : List ℕ}
     (reported : Reported ws log ticks editRoom ruleRoom (given (report, counts)) x y) where
-  -- A log has at most 4,095 clean cycles,
-  pub count-bounded : report .count ≤ 4095
-  count-bounded = told-4095 (told reported)
-
-  -- each of at most 4,294,967,295 ticks of 10 ms.
-  pub sum-bounded : report .sum ≤ report .count * (4294967295 * 10)
-  sum-bounded = told-most (told reported)
-
-  -- So sum and count become floats without loss.
+  -- Sum and count become floats without loss.
   pub sum-exact : toUnsigned 64 (ofInt binary64 (pos (report .sum))) ≡ report .sum
-  sum-exact = exact (report .sum) (omega (arith, count-bounded, sum-bounded))
+  sum-exact = let limits = report-limits reported in exact (report .sum) (omega (arith, limits .0, limits .1))
 
   pub count-exact : toUnsigned 64 (ofInt binary64 (pos (report .count))) ≡ report .count
-  count-exact = exact (report .count) (omega (arith, count-bounded))
+  count-exact = let limits = report-limits reported in exact (report .count) (omega (arith, limits .0))
 
--- "This is the true time where that is below 2^32 ticks": the ticks of a cycle are the remainders of true times, in ticks, of
--- which the second is the later; its time in ms is their difference, times the unit.
-pub true-time : (unit : ℕ) (ticks : List ℕ) (s : Span) (from to : ℕ) → getD ticks (s .opened) 0 ≡ from % 4294967296
+-- "This is the true time where that is below 2^32 ticks": the ticks of a cycle are the remainders of true times, in ms, of
+-- which the second is the later; its time is their difference.
+pub true-time : (ticks : List ℕ) (s : Span) (from to : ℕ) → getD ticks (s .opened) 0 ≡ from % 4294967296
     → getD ticks (s .closed) 0 ≡ to % 4294967296 → from ≤ to → to - from < 4294967296
-    → cycleMs unit ticks s ≡ (to - from) * unitMs unit
-unfolding cycleMs
-true-time unit ticks s from to e f l below =
-    ap (λ (t : ℕ). t * unitMs unit)
-    (wrapped-true (getD ticks (s .opened) 0) (getD ticks (s .closed) 0) from to e f l below)
+    → cycleMs ticks s ≡ to - from
+unfolding cycleMs wrapped
+true-time ticks s from to e f l below = omega arith

@@ -1,12 +1,12 @@
-// The pace report: document 01, "Pace". The cycles are found in one pass over the log's places, with a cursor in the edit
-// records, whose places never fall.
+// The pace report: document 01, "Pace", and refusal 16 of 02. The cycles are found in one pass over the log's places, with a cursor in the
+// edit records, whose places never fall.
 ghost use mathlib.Core.Path.{_≡_};
 ghost use mathlib.Core.Bool.{_||_, true};
 ghost use Prim.Native.Nat.{_+_, _*_, _≤_, _<_};
 ghost use lib.Dec.{eqb};
 ghost use lib.ListN.{length};
-ghost use Rattle.grammar.specs.Words.{Shaped, tickUnit};
-ghost use Rattle.grammar.specs.Pace.{Reported, paceOf, unitMs, wrapped};
+ghost use Rattle.grammar.specs.Words.{Shaped};
+ghost use Rattle.grammar.specs.Pace.{Reported, paceOf, wrapped};
 ghost use Rattle.base.specs.Telling.{Tells};
 ghost use Rattle.pace.specs.Answer.{pacedOf};
 ghost use Rattle.pace.specs.Watch.{
@@ -26,6 +26,7 @@ ghost use Rattle.pace.specs.Watch.{
 use grammar::Counts;
 use grammar::Refusal;
 use grammar::Report;
+use parser::Asking;
 use parser::Parsing;
 
 // The answer: the report with the counts of its parse, or a refusal. `pacedOf` of specs/Answer.antt says what each stands for.
@@ -52,7 +53,7 @@ struct Here {
     behind: usize,
 }
 
-// The cycles so far, with the sum of their times in ticks. `begun` says that an opening mark was kept at tick `since`, and that
+// The cycles so far, with the sum of their times in ms. `begun` says that an opening mark was kept at tick `since`, and that
 // behind it no mark and no restart mark was kept and no edit stands: the next closing mark makes a clean cycle.
 struct Watch {
     begun: bool,
@@ -61,8 +62,8 @@ struct Watch {
     sum: u64,
 }
 
-// The report of a log, from unchecked grammar words: it runs the parse, asking for as many ticks as tokens, and leaves in the buffers
-// what the parse leaves.
+// The report of a log, from unchecked grammar words: it runs the parse, asking for as many ticks as tokens and that the unit is not 1, and
+// leaves in the buffers what the parse leaves.
 pub fn report(
     words: &[u16],
     log: &[u16],
@@ -73,8 +74,11 @@ pub fn report(
     ensures { λ r. ⌜ Reported (now (words .entry)) (now (log .entry)) (now (ticks .entry)) (length (now (edits .entry)))
         (length (now (rules .entry))) (pacedOf r) (now (edits .exit)) (now (rules .exit)) ⌝ }
 {
-    let timed = ticks.len() == log.len();
-    let parsing = parser::parse_asking(words, log, timed, edits, rules);
+    let asking = Asking {
+        timed: ticks.len() == log.len(),
+        paced: !shape::unit_one(words),
+    };
+    let parsing = parser::parse_asking(words, log, asking, edits, rules);
     match parsing {
         Parsing::Parsed(counts) => {
             let told = cycles(words, log, ticks, edits, counts.records);
@@ -107,7 +111,7 @@ fn cycles(words: &[u16], log: &[u16], ticks: &[u32], edits: &[u16], records: usi
         place += 1;
     }
     let count = watch.count;
-    let sum = watch.sum * unit_ms(words);
+    let sum = watch.sum;
     Report {
         count,
         sum,
@@ -125,14 +129,6 @@ fn marks_of(words: &[u16]) -> Marks
         closing: shape::closing(words),
         restart: shape::restart(words),
     }
-}
-
-// The tick unit in ms: "0 one ms, 1 ten ms".
-fn unit_ms(words: &[u16]) -> u64
-    requires { ⌜ Shaped (now words) ⌝ }
-    ensures { λ r. ⌜ r ≡ unitMs (tickUnit (now (words .entry))) ⌝ }
-{
-    if shape::tick_unit(words) == 0 { 1 } else { 10 }
 }
 
 // "Idle when the count is 0, else the mean in ms as an f64, sum and count each converted without loss and divided once."
@@ -262,7 +258,7 @@ fn spoils(edited: bool, token: u16, restart: u16) -> bool
     token == restart
 }
 
-// The time of a cycle in ticks: "tick b minus tick a modulo 2^32".
+// The time of a cycle in ms: "tick b minus tick a modulo 2^32".
 fn time(opened: u32, closed: u32) -> u32
     ensures { λ r. ⌜ r ≡ wrapped opened closed ⌝ }
 {

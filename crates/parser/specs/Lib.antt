@@ -5,5 +5,6 @@ pub mod Down
 pub mod Steps
 pub mod Turns
 pub mod Runs
+pub mod Asking
 pub mod Parses
 pub mod Unique

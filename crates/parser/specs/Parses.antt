@@ -1,4 +1,4 @@
--- The parser's answer: refusals 5 to 10 before the run, the run, and what the buffers then hold.
+-- The parser's answer: the refusals before the run, the run, and what the buffers then hold.
 use Prim.Native.Nat.{ℕ, zero, suc, _+_, _-_, _*_, _≤_, _<_, min, max}
 use mathlib.Core.Path.{_≡_, refl, ap, _∙_, subst}
 use mathlib.Core.Bool.{Bool, true, false}
@@ -11,23 +11,24 @@ use lib.Seq.{length-take-le}
 use Rattle.grammar.specs.Words.{END, Shaped, RuleSymbol, terminalCount, nonterminalCount}
 use Rattle.grammar.specs.Buffers.{filled, cleared}
 use Rattle.grammar.specs.Grammar.{grammarOf}
-use Rattle.grammar.specs.Run.{RunOf, LogFits, LogBelow, runConditions, Settled, answered, left, ParsedAsking, Parsed}
+use Rattle.grammar.specs.Run.{RunOf, LogFits, LogBelow, Asks, only10, runConditions, Settled, answered, left, ParsedAsking, Parsed}
 use Rattle.grammar.specs.Refusals.{Lowest, Outcome, given, refused}
 use Rattle.grammar.specs.declared.Refusal.{Refusal}
-use Rattle.grammar.specs.declared.Refusal.the-variants.{BadLog}
 use Rattle.grammar.specs.declared.Counts.{Counts}
-use Rattle.grammar.specs.theory.Answers.{log-tokens, parses-asking}
-use Rattle.grammar.specs.theory.Conditions.{all-met, applies, passes, held-front, refused-front}
+use Rattle.grammar.specs.theory.Answers.{conditionsFrom10, log-held, log-tokens, parses-asking}
+use Rattle.grammar.specs.theory.Conditions.{none-fails, held-front, refused-front}
 use Rattle.grammar.specs.theory.Good.{accepted, good-words}
 use Rattle.grammar.specs.theory.Tables.{Inner, sizedOf, Cheap, cheap-of}
 use Rattle.base.specs.Blank.{Blank, blank-made}
 use Rattle.base.specs.Telling.{Tells, denied}
 use Rattle.moves.specs.Tests.{le-or-lt}
-use Rattle.verdict.specs.Answer.{Tabled, verdict-in}
+use Rattle.verdict.specs.Answer.{Tabled, checkOf, verdict-in}
 use Rattle.verdict.specs.declared.Checked.{Checked}
 use Rattle.verdict.specs.declared.Checked.the-variants as checked
 use Rattle.parser.specs.Reached.{Setting}
 use Rattle.parser.specs.Runs.{parsingOf, Ended, CanRun, RanOf}
+use Rattle.parser.specs.Asking.{asksBy}
+use Rattle.parser.specs.declared.Asking.{Asking}
 use Rattle.parser.specs.declared.Parsing.{Parsing}
 use Rattle.parser.specs.declared.Parsing.the-variants as parsing
 
@@ -89,8 +90,8 @@ module _ {T : ℕ} {log : List ℕ} {Asked : Type 0} {i low high : ℕ} (w : Spa
 
 -- ---- Before the run
 
--- The run's answer where 5 to 10 do not apply; else the refusal.
-unfoldable pub SettledAs : Type 0 → List ℕ → List ℕ → ℕ → ℕ → List ℕ → List ℕ → Parsing → Type 0
+-- The run's answer where no condition before it fails; else the refusal.
+unfoldable pub SettledAs : Asks → List ℕ → List ℕ → ℕ → ℕ → List ℕ → List ℕ → Parsing → Type 0
 SettledAs Asked ws log editRoom ruleRoom editBuffer ruleBuffer (parsing.Parsed counts) =
     Lowest (runConditions ws log Asked) none × Ended (sizedOf ws) log editRoom ruleRoom counts editBuffer ruleBuffer
 SettledAs Asked ws log editRoom ruleRoom editBuffer ruleBuffer (parsing.Refused r) =
@@ -150,7 +151,7 @@ setting-of {ws} {log} t f =
     symbol (RuleSymbol.terminal a b) = Inner.terminal b
     symbol (RuleSymbol.nonterminal a b) = Inner.nonterminal a b
 
-module _ (Asked : Type 0) {ws sets prices sides rows : List ℕ} {j : Checked} (t : Tabled ws sets prices sides rows j) where
+module _ (Asked : Asks) {ws sets prices sides rows : List ℕ} {j : Checked} (t : Tabled ws sets prices sides rows j) where
   pub check-refuses : (log : List ℕ) (editRoom ruleRoom : ℕ) (editBuffer ruleBuffer : List ℕ) {r : Refusal} → j ≡ checked.Refused r
       → SettledAs Asked ws log editRoom ruleRoom editBuffer ruleBuffer (parsing.Refused r)
   unfolding SettledAs
@@ -166,24 +167,27 @@ module _ (Asked : Type 0) {ws sets prices sides rows : List ℕ} {j : Checked} (
     pub log-can : Shaped ws
     log-can = accepted (verdict-in t passed) .shaped
 
-    module _ {log : List ℕ} {answer : Bool} (test : Tells (LogFits ws log × Asked) answer) where
-      pub log-refuses : (editRoom ruleRoom : ℕ) (editBuffer ruleBuffer : List ℕ) → answer ≡ false
-          → SettledAs Asked ws log editRoom ruleRoom editBuffer ruleBuffer (parsing.Refused BadLog)
+    module _ {log : List ℕ} {admitted : Checked} (lowest : Lowest (conditionsFrom10 Asked ws log) (checkOf admitted)) where
+      -- 10, or what is asked behind it,
+      pub admits-refuses : (editRoom ruleRoom : ℕ) (editBuffer ruleBuffer : List ℕ) {r : Refusal} → admitted ≡ checked.Refused r
+          → SettledAs Asked ws log editRoom ruleRoom editBuffer ruleBuffer (parsing.Refused r)
       unfolding SettledAs
-      log-refuses editRoom ruleRoom editBuffer ruleBuffer e =
-          Settled.before (held-front (verdict-in t passed) (applies (test .no e)))
+      admits-refuses editRoom ruleRoom editBuffer ruleBuffer e =
+          Settled.before (held-front (verdict-in t passed) (subst (λ a. Lowest (conditionsFrom10 Asked ws log) (checkOf a)) e lowest))
 
-      met : answer ≡ true → Lowest (runConditions ws log Asked) none
-      met e = held-front (verdict-in t passed) (passes (test .yes e) all-met)
+      -- or the run.
+      met : admitted ≡ checked.Accepted → Lowest (runConditions ws log Asked) none
+      met e = held-front (verdict-in t passed) (subst (λ a. Lowest (conditionsFrom10 Asked ws log) (checkOf a)) e lowest)
 
-      pub run-can : (stack : List ℕ) → answer ≡ true → 264 ≤ length stack → CanRun (sizedOf ws) log sets prices sides rows stack
+      pub run-can : (stack : List ℕ) → admitted ≡ checked.Accepted → 264 ≤ length stack
+          → CanRun (sizedOf ws) log sets prices sides rows stack
       run-can stack e l =
           record {
-            setting = setting-of (subst (λ x. Tabled ws sets prices sides rows x) passed t) (test .yes e .0);
+            setting = setting-of (subst (λ x. Tabled ws sets prices sides rows x) passed t) (log-held (met e) .0);
             cells = l;
           }
 
-      pub run-settles : (editRoom ruleRoom : ℕ) (editBuffer ruleBuffer : List ℕ) (r : Parsing) → answer ≡ true
+      pub run-settles : (editRoom ruleRoom : ℕ) (editBuffer ruleBuffer : List ℕ) (r : Parsing) → admitted ≡ checked.Accepted
           → RanOf (sizedOf ws) log editRoom ruleRoom editBuffer ruleBuffer r
           → SettledAs Asked ws log editRoom ruleRoom editBuffer ruleBuffer r
       unfolding SettledAs RanOf
@@ -206,7 +210,7 @@ unfolding filled cleared
 filled-none room b = let e : room - 0 ≡ room = omega arith in ap (λ n. replicate n 0) e
 
 -- What was listed fits.
-pub settled-fits : (Asked : Type 0) (ws log edits₀ rules₀ edits′ rules′ : List ℕ) {answer : Parsing} {counts : Counts}
+pub settled-fits : (Asked : Asks) (ws log edits₀ rules₀ edits′ rules′ : List ℕ) {answer : Parsing} {counts : Counts}
     → SettledAs Asked ws log (length edits₀) (length rules₀) edits′ rules′ answer → answer ≡ parsing.Parsed counts
     → (3 * counts .records ≤ length edits₀) × (counts .listed ≤ length rules₀)
 unfolding SettledAs
@@ -214,7 +218,7 @@ settled-fits Asked ws log edits₀ rules₀ edits′ rules′ s e =
     let x = subst (λ r. SettledAs Asked ws log (length edits₀) (length rules₀) edits′ rules′ r) e s in
     (x .1 .edits-fit, x .1 .rules-fit)
 
-module _ (Asked : Type 0) (ws log edits₀ rules₀ edits′ rules′ : List ℕ) {answer : Parsing}
+module _ (Asked : Asks) (ws log edits₀ rules₀ edits′ rules′ : List ℕ) {answer : Parsing}
     (s : SettledAs Asked ws log (length edits₀) (length rules₀) edits′ rules′ answer)
     (same-edits : length edits′ ≡ length edits₀) (same-rules : length rules′ ≡ length rules₀) (editsAfter rulesAfter : List ℕ) where
   pub parses-counts : {counts : Counts} → answer ≡ parsing.Parsed counts
@@ -258,7 +262,20 @@ module _ (Asked : Type 0) (ws log edits₀ rules₀ edits′ rules′ : List ℕ
         answers = refl;
       }
 
--- The parser asks no more, so what it asks holds.
-pub parsed-plain : {ws log : List ℕ} {editRoom ruleRoom : ℕ} {a : Outcome Counts} {x y : List ℕ} {Asked : Type 0} → Asked
-    → ParsedAsking Asked ws log editRoom ruleRoom a x y → Parsed ws log editRoom ruleRoom a x y
-parsed-plain held p = record { outcome = p .outcome; parses = parses-asking (λ q. tt) (λ q. held) (p .parses); answers = p .answers }
+-- Where the second test holds, only the first is asked; and where both hold, nothing is.
+pub parsed-only10 : {asking : Asking} {ws log : List ℕ} {editRoom ruleRoom : ℕ} {a : Outcome Counts} {x y : List ℕ} → asking .paced ≡ true
+    → ParsedAsking (asksBy asking) ws log editRoom ruleRoom a x y
+    → ParsedAsking (only10 (asking .timed ≡ true)) ws log editRoom ruleRoom a x y
+parsed-only10 paced p =
+    record {
+      outcome = p .outcome;
+      parses = parses-asking (λ q. q) (λ q. q) (λ q. none-fails paced) (p .parses);
+      answers = p .answers;
+    }
+
+pub parsed-plain : {asking : Asking} {ws log : List ℕ} {editRoom ruleRoom : ℕ} {a : Outcome Counts} {x y : List ℕ}
+    → asking .timed ≡ true → asking .paced ≡ true → ParsedAsking (asksBy asking) ws log editRoom ruleRoom a x y
+    → Parsed ws log editRoom ruleRoom a x y
+parsed-plain timed paced p =
+    let q = parsed-only10 paced p in
+    record { outcome = q .outcome; parses = parses-asking (λ h. tt) (λ h. timed) (λ o l. l) (q .parses); answers = q .answers }

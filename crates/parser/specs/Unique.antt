@@ -2,7 +2,7 @@
 use Prim.Native.Nat.{ℕ}
 use mathlib.Core.Path.{_≡_, ap}
 use mathlib.Core.List.{List}
-use Rattle.grammar.specs.Run.{ParsedAsking}
+use Rattle.grammar.specs.Run.{Asks, ParsedAsking}
 use Rattle.grammar.specs.theory.Answers.{parsed-unique}
 use Rattle.grammar.specs.theory.Outcomes.{given-same, refused-same, given-refused}
 use Rattle.parser.specs.Runs.{parsingOf}
@@ -17,7 +17,7 @@ parsing-same (Parsed c) (Refused s) q = absurd (given-refused mathlib.Core.Path.
 parsing-same (Refused r) (Parsed d) q = absurd (given-refused q mathlib.Core.Path.refl)
 parsing-same (Refused r) (Refused s) q = ap (λ x. Refused x) (refused-same q)
 
-pub parse-unique : {Asked : Type 0} {ws log : List ℕ} {editRoom ruleRoom : ℕ} (r s : Parsing) {x y u v : List ℕ}
+pub parse-unique : {Asked : Asks} {ws log : List ℕ} {editRoom ruleRoom : ℕ} (r s : Parsing) {x y u v : List ℕ}
     → ParsedAsking Asked ws log editRoom ruleRoom (parsingOf r) x u → ParsedAsking Asked ws log editRoom ruleRoom (parsingOf s) y v
     → (r ≡ s) × (x ≡ y) × (u ≡ v)
 parse-unique r s first second =

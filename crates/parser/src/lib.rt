@@ -8,11 +8,15 @@ ghost use Rattle.parser.specs.Lookup.{CanLookUp, RuleFor};
 ghost use Rattle.parser.specs.Expanding.{CanExpand, ExpandedOf};
 ghost use Rattle.parser.specs.Turns.{CanTurn, TurnOf};
 ghost use Rattle.parser.specs.Runs.{CanRun, RanOf, parsingOf};
+ghost use Rattle.parser.specs.Asking.{asksBy};
 ghost use Rattle.parser.specs.Parses.{CheapWhere, Lent, SettledAs};
 ghost use Rattle.base.specs.Telling.{Tells};
 ghost use Rattle.grammar.specs.Run.{LogFits, Parsed, ParsedAsking};
 ghost use Rattle.grammar.specs.Words.{Shaped};
+ghost use Rattle.grammar.specs.Refusals.{Lowest};
+ghost use Rattle.grammar.specs.theory.Answers.{conditionsFrom10};
 ghost use Rattle.grammar.specs.theory.Tables.{sizedOf};
+ghost use Rattle.verdict.specs.Answer.{checkOf};
 use correction::Corrected;
 use grammar::Counts;
 use grammar::Refusal;
@@ -24,6 +28,15 @@ use verdict::Checked;
 pub enum Parsing {
     Parsed(Counts),
     Refused(Refusal),
+}
+
+// What a caller asks before the run, besides what the parser does: each is true where it holds or is not asked. `asksBy` of
+// specs/Asking.antt says what they stand for.
+pub struct Asking {
+    // Under refusal 10: there are as many ticks as tokens.
+    pub timed: bool,
+    // Behind it, refusal 16: the tick unit is not 1.
+    pub paced: bool,
 }
 
 // The state behind a turn of the run, or the refusal that it meets.
@@ -38,23 +51,27 @@ pub fn parse(words: &[u16], log: &[u16], edits: &mut [u16], rules: &mut [u16]) -
     ensures { λ r. ⌜ Parsed (now (words .entry)) (now (log .entry)) (length (now (edits .entry))) (length (now (rules .entry)))
         (parsingOf r) (now (edits .exit)) (now (rules .exit)) ⌝ }
 {
-    parse_asking(words, log, true, edits, rules)
+    let nothing = Asking {
+        timed: true,
+        paced: true,
+    };
+    parse_asking(words, log, nothing, edits, rules)
 }
 
-// The same for a caller that asks something more under refusal 10: `asked` says that it holds.
+// The same for a caller that asks something more.
 pub fn parse_asking(
     words: &[u16],
     log: &[u16],
-    asked: bool,
+    asking: Asking,
     edits: &mut [u16],
     rules: &mut [u16],
 ) -> Parsing
-    ensures { λ r. ⌜ ParsedAsking (asked ≡ true) (now (words .entry)) (now (log .entry)) (length (now (edits .entry)))
+    ensures { λ r. ⌜ ParsedAsking (asksBy asking) (now (words .entry)) (now (log .entry)) (length (now (edits .entry)))
         (length (now (rules .entry))) (parsingOf r) (now (edits .exit)) (now (rules .exit)) ⌝ }
 {
     let mut prices = [0u32; 256];
     let mut sides = [0u64; 512];
-    parse_tabled(words, log, asked, &mut prices, &mut sides, edits, rules)
+    parse_tabled(words, log, asking, &mut prices, &mut sides, edits, rules)
 }
 
 // The same for a caller that spells strings of cheapest rules behind it: the two tables that this takes are lent by it, the first of them of
@@ -62,18 +79,18 @@ pub fn parse_asking(
 pub fn parse_tabled(
     words: &[u16],
     log: &[u16],
-    asked: bool,
+    asking: Asking,
     prices: &mut [u32],
     sides: &mut [u64],
     edits: &mut [u16],
     rules: &mut [u16],
 ) -> Parsing
     requires { ⌜ Lent (now prices) (now sides) ⌝ }
-    ensures { λ r. ⌜ ParsedAsking (asked ≡ true) (now (words .entry)) (now (log .entry)) (length (now (edits .entry)))
+    ensures { λ r. ⌜ ParsedAsking (asksBy asking) (now (words .entry)) (now (log .entry)) (length (now (edits .entry)))
         (length (now (rules .entry))) (parsingOf r) (now (edits .exit)) (now (rules .exit)) ⌝ }
     ensures { λ r. ⌜ CheapWhere (now (words .entry)) (now (prices .exit)) (now (sides .exit)) r ⌝ }
 {
-    let answer = settle(words, log, asked, prices, sides, edits, rules);
+    let answer = settle(words, log, asking, prices, sides, edits, rules);
     match answer {
         Parsing::Parsed(counts) => {
             base::clear_words(edits, 3 * counts.records);
@@ -92,14 +109,14 @@ pub fn parse_tabled(
 fn settle(
     words: &[u16],
     log: &[u16],
-    asked: bool,
+    asking: Asking,
     prices: &mut [u32],
     sides: &mut [u64],
     edits: &mut [u16],
     rules: &mut [u16],
 ) -> Parsing
     requires { ⌜ Lent (now prices) (now sides) ⌝ }
-    ensures { λ r. ⌜ SettledAs (asked ≡ true) (now (words .entry)) (now (log .entry)) (length (now (edits .entry)))
+    ensures { λ r. ⌜ SettledAs (asksBy asking) (now (words .entry)) (now (log .entry)) (length (now (edits .entry)))
         (length (now (rules .entry))) (now (edits .exit)) (now (rules .exit)) r ⌝ }
     ensures { λ r. ⌜ CheapWhere (now (words .entry)) (now (prices .exit)) (now (sides .exit)) r ⌝ }
 {
@@ -108,21 +125,24 @@ fn settle(
     let checked = verdict::tables(words, &mut masks, prices, sides, &mut rows);
     match checked {
         Checked::Accepted => {
-            if log_fits(words, log, asked) {} else {
-                return Parsing::Refused(Refusal::BadLog);
+            let admitted = admits(words, log, asking);
+            match admitted {
+                Checked::Accepted => {
+                    let mut stack = [0u16; 264];
+                    run(
+                        words,
+                        log,
+                        &masks,
+                        prices,
+                        sides,
+                        &rows,
+                        &mut stack,
+                        edits,
+                        rules,
+                    )
+                }
+                Checked::Refused(refusal) => Parsing::Refused(refusal),
             }
-            let mut stack = [0u16; 264];
-            run(
-                words,
-                log,
-                &masks,
-                prices,
-                sides,
-                &rows,
-                &mut stack,
-                edits,
-                rules,
-            )
         }
         Checked::Refused(r) => Parsing::Refused(r),
     }
@@ -269,6 +289,20 @@ fn run(
 }
 
 // ---- Before the run
+
+// The conditions behind those of the check, in their order: 10 and 16.
+fn admits(words: &[u16], log: &[u16], asking: Asking) -> Checked
+    requires { ⌜ Shaped (now words) ⌝ }
+    ensures { λ r. ⌜ Lowest (conditionsFrom10 (asksBy asking) (now (words .entry)) (now (log .entry))) (checkOf r) ⌝ }
+{
+    if log_fits(words, log, asking.timed) {} else {
+        return Checked::Refused(Refusal::BadLog);
+    }
+    if asking.paced {} else {
+        return Checked::Refused(Refusal::Hundredths);
+    }
+    Checked::Accepted
+}
 
 // Refusal 10: "over 4,096 tokens, a token outside 1..T-1", and what else is asked. The least and the largest token are found without a
 // branch for each.

@@ -9,6 +9,7 @@ ghost use Rattle.grammar.specs.Words.{
   Restart,
   RuleSymbol,
   Shaped,
+  UnitOne,
   closing,
   headerSize,
   insertCost,
@@ -20,7 +21,6 @@ ghost use Rattle.grammar.specs.Words.{
   ruleCount,
   rulePlace,
   terminalCount,
-  tickUnit,
   word,
 };
 ghost use Rattle.shape.specs.Ready.{Ready};
@@ -271,6 +271,18 @@ fn between(x: u16, low: u16, high: u16) -> bool
     x <= high
 }
 
+// ---- The unit, in any words
+
+// Refusal 16: "unit 1, that is, six words or more with word 5 equal to 1".
+pub fn unit_one(words: &[u16]) -> bool
+    ensures { λ r. ⌜ Tells (UnitOne (now (words .entry))) r ⌝ }
+{
+    if words.len() < 6 {
+        return false;
+    }
+    words[5] == 1
+}
+
 // ---- What stands in words that have the shape
 
 // T, terminals.
@@ -311,14 +323,6 @@ pub fn closing(words: &[u16]) -> u16
     ensures { λ r. ⌜ r ≡ closing (now (words .entry)) ⌝ }
 {
     header(words, 4)
-}
-
-// The tick unit: 0 one ms, 1 ten ms.
-pub fn tick_unit(words: &[u16]) -> u16
-    requires { ⌜ Shaped (now words) ⌝ }
-    ensures { λ r. ⌜ r ≡ tickUnit (now (words .entry)) ⌝ }
-{
-    header(words, 5)
 }
 
 // The restart mark, 0 where there is none.

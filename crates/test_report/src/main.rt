@@ -1,6 +1,5 @@
-// Runs the pace report on the bench examples of document 01 that have a log, with their ticks, on examples of equal marks,
-// tick unit 1, both marks 0 and a missing tick, and on those of request (vi). It prints each answer; README.md says where the expected
-// ones come from.
+// Runs the pace report on the bench examples of document 01 that have a log, with their ticks, on examples of equal marks, both marks 0 and
+// a missing tick, and on those of requests (vi) and (viii). It prints each answer; README.md says where the expected ones come from.
 use grammar::Pace;
 use grammar::Report;
 use pace::Paced;
@@ -132,6 +131,7 @@ fn main() {
     cases();
     marks();
     units();
+    order();
     restarts();
 }
 
@@ -191,33 +191,61 @@ fn marks() {
     run(b"no marks", grammar_g(0, 0, 0, 40), &log, &ticks);
 }
 
-// Tick unit 1 is ten ms. A tick too few is refusal 10.
+// Request (viii): no pace comes of unit 1, which is refused with 16 and never idle. A tick too few is refusal 10.
 fn units() {
+    let empty_log = [0u16; 0];
+    let empty_ticks = [0u32; 0];
     let log = [START, POLE, CRIMP, DONE];
-    run(
-        b"unit 0",
-        grammar_g(START, DONE, 0, 40),
-        &log,
-        &[100, 250, 400, 900],
-    );
-    run(
-        b"unit 1",
-        grammar_g(START, DONE, 1, 40),
-        &log,
-        &[100, 250, 400, 900],
-    );
-    run(
-        b"case 8, unit 1",
-        grammar_g(START, DONE, 1, 40),
-        &log,
-        &[4294967196, 0, 0, 904],
-    );
+    let ticks = [100u32, 250, 400, 900];
+    let g1 = grammar_g(START, DONE, 1, 40);
+    run(b"unit 0", grammar_g(START, DONE, 0, 40), &log, &ticks);
+    run(b"unit 1", g1, &log, &ticks);
+    run(b"unit 1, empty log", g1, &empty_log, &empty_ticks);
+    run(b"unit 1, no cycle", g1, &[DONE], &[0]);
+    run(b"unit 1, no marks", grammar_g(0, 0, 1, 40), &log, &ticks);
     run(
         b"three ticks",
         grammar_g(START, DONE, 0, 40),
         &log,
         &[100, 250, 400],
     );
+}
+
+// Where 16 stands: behind 5 and 10, before 11 and 12.
+fn order() {
+    let empty_ticks = [0u32; 0];
+    let short = [3u16, 1, 2, 0, 0, 1, 0, 0, 1, 0, 1, 0, 0, 3, 1, 64, 2, 0];
+    let g1 = grammar_g(START, DONE, 1, 40);
+    run(b"unit 1, no tick", g1, &[START], &empty_ticks);
+    run(b"unit 1, token 7", g1, &[7], &[0]);
+    roomy(b"unit 1, a word short", &short, &[1], &[0]);
+    roomless(b"unit 0, no room", grammar_g(START, DONE, 0, 40));
+    roomless(b"unit 1, no room", g1);
+    deep(b"unit 0, too deep", brackets(0));
+    deep(b"unit 1, too deep", brackets(1));
+}
+
+// A log of start alone, with no room for edits and rules.
+fn roomless(name: &[u8], words: [u16; 42]) {
+    let mut edits = [0u16; 0];
+    let mut rules = [0u16; 0];
+    let paced = pace::report(&words, &[START], &[0], &mut edits, &mut rules);
+    print_paced(name, paced);
+}
+
+// 254 brackets that open.
+fn deep(name: &[u8], words: [u16; 19]) {
+    let log = [1u16; 254];
+    let ticks = [0u32; 254];
+    let mut edits = [0u16; 0];
+    let mut rules = [0u16; 254];
+    let paced = pace::report(&words, &log, &ticks, &mut edits, &mut rules);
+    print_paced(name, paced);
+}
+
+// 64 -> 1 64 2; 64 -> empty, without marks, costs 1 and reliabilities 0, with this tick unit.
+fn brackets(unit: u16) -> [u16; 19] {
+    [3, 1, 2, 0, 0, unit, 0, 0, 1, 0, 1, 0, 0, 3, 1, 64, 2, 0, 0]
 }
 
 // Request (vi): a kept restart mark inside a cycle makes it unclean; before, between and behind cycles it does nothing.
@@ -264,9 +292,17 @@ fn grammar_g(opening: u16, closing: u16, unit: u16, done: u16) -> [u16; 42] {
 }
 
 fn run(name: &[u8], words: [u16; 42], log: &[u16], ticks: &[u32]) {
+    roomy(name, &words, log, ticks);
+}
+
+fn roomy(name: &[u8], words: &[u16], log: &[u16], ticks: &[u32]) {
     let mut edits = [0u16; 96];
     let mut rules = [0u16; 96];
-    let paced = pace::report(&words, log, ticks, &mut edits, &mut rules);
+    let paced = pace::report(words, log, ticks, &mut edits, &mut rules);
+    print_paced(name, paced);
+}
+
+fn print_paced(name: &[u8], paced: Paced) {
     io::write_all(1, name);
     match paced {
         Paced::Reported(report, _) => print_report(report),

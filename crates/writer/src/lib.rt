@@ -1,4 +1,4 @@
-// The writer of grammar files: document 02, request (i), and refusals 13 and 14.
+// The writer of grammar files: document 02, request (i), and refusals 13, 16 and 14.
 ghost use mathlib.Core.Path.{_≡_};
 ghost use mathlib.Core.List.{[], _∷_};
 ghost use Prim.Native.Nat.{_+_, _*_, _≤_, _<_, min};
@@ -31,7 +31,7 @@ pub enum Writing {
 // Eleven full blocks.
 const MOST_WORDS: usize = 2783;
 
-// Writes the file of the words into the buffer, behind which it is zero; or gives the lower refusal of 13 and 14 that applies, and the
+// Writes the file of the words into the buffer, behind which it is zero; or gives the first refusal of 13, 16 and 14 that applies, and the
 // whole buffer is zero. The words are not checked. The buffer is cleared first, so that no refusal can leave an old byte in it, and what a
 // block does not use is zero.
 pub fn write(words: &[u16], bytes: &mut [u8]) -> Writing
@@ -40,6 +40,9 @@ pub fn write(words: &[u16], bytes: &mut [u8]) -> Writing
     base::clear_bytes(bytes, 0);
     if count_right(words.len()) {} else {
         return Writing::Refused(Refusal::BadCount);
+    }
+    if shape::unit_one(words) {
+        return Writing::Refused(Refusal::Hundredths);
     }
     let blocks = blocks_for(words.len());
     let size = BLOCK_BYTES * blocks;

@@ -59,13 +59,13 @@ rules-agree none ms h = tt
 rules-agree (some ps) ms h =
     let e = same-list (ruleNumbers ms) ps h in (ap length e, ap (filled ruleRoom) e)
 
-pub pace-agrees : (o : Option ToldPace) (unit : ℕ) (ticks : List ℕ) (cs : List Span) → T (paceAgrees o (length cs) (totalMs unit ticks cs))
-    → PaceTold o (reportOf unit ticks cs)
+pub pace-agrees : (o : Option ToldPace) (ticks : List ℕ) (cs : List Span) → T (paceAgrees o (length cs) (totalMs ticks cs))
+    → PaceTold o (reportOf ticks cs)
 unfolding paceAgrees reportOf paceOf
-pace-agrees none unit ticks cs h = tt
-pace-agrees (some idle) unit ticks cs h =
-    let e = eqb→eq (length cs) 0 h in (e, ap (λ n. paceOf n (totalMs unit ticks cs)) e)
-pace-agrees (some (cycles m u)) unit ticks cs h =
-    let e = eqb→eq (length cs) m (left-of (eqb (length cs) m) (eqb (totalMs unit ticks cs) u) h) in
-    let d = eqb→eq (totalMs unit ticks cs) u (right-of (eqb (length cs) m) (eqb (totalMs unit ticks cs) u) h) in
-    (e, d, ap (λ n. paceOf n (totalMs unit ticks cs)) e ∙ ap (paceOf m) d)
+pace-agrees none ticks cs h = tt
+pace-agrees (some idle) ticks cs h =
+    let e = eqb→eq (length cs) 0 h in (e, ap (λ n. paceOf n (totalMs ticks cs)) e)
+pace-agrees (some (cycles m u)) ticks cs h =
+    let e = eqb→eq (length cs) m (left-of (eqb (length cs) m) (eqb (totalMs ticks cs) u) h) in
+    let d = eqb→eq (totalMs ticks cs) u (right-of (eqb (length cs) m) (eqb (totalMs ticks cs) u) h) in
+    (e, d, ap (λ n. paceOf n (totalMs ticks cs)) e ∙ ap (paceOf m) d)

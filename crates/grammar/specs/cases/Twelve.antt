@@ -1,8 +1,8 @@
 -- The twelve cases and those of request (ii): the definitions give each of them. The model runs each case, and its answer is compared
 -- with the table's; where that test passes, the definitions give the case.
 use Prim.Native.Nat.{ℕ}
-use mathlib.Core.Path.{_≡_, refl}
-use mathlib.Core.Bool.{Bool, true, false, _&&_}
+use mathlib.Core.Path.{_≡_, refl, subst}
+use mathlib.Core.Bool.{Bool, true, false, not, _&&_}
 use mathlib.Core.List.{List, [], _∷_}
 use mathlib.Core.Option.{Option, none, some}
 use lib.ListN.{length}
@@ -10,9 +10,10 @@ use lib.Dec.{T, eqb, eqb→eq}
 use Rattle.grammar.specs.Words.{isLong, opening, closing, restartMark, tickUnit}
 use Rattle.grammar.specs.Buffers.{filled}
 use Rattle.grammar.specs.Moves.{Move, edits, editWords, ruleNumbers}
-use Rattle.grammar.specs.Refusals.{Outcome, given, refused, numberOf}
-use Rattle.grammar.specs.Run.{Parses, Parsed, countsOf, answered, left}
-use Rattle.grammar.specs.Pace.{Span, reportOf, totalMs, cycleMs, wrapped, unitMs, ReportsBy}
+use Rattle.grammar.specs.Refusals.{Lowest, Outcome, given, refused, numberOf}
+use Rattle.grammar.specs.Run.{Asks, noMore, Parses, Parsed, countsOf, answered, left}
+use Rattle.grammar.specs.Pace.{Span, reportOf, totalMs, cycleMs, wrapped, timed, ReportsBy}
+use Rattle.grammar.specs.theory.Conditions.{all-met, holds-alone}
 use Rattle.grammar.specs.model.Tests.{left-of, right-of}
 use Rattle.grammar.specs.model.Reflects.{iff-test}
 use Rattle.grammar.specs.model.Parses.{fitsLog, log-test, outcomeOf, settled}
@@ -36,8 +37,8 @@ module _ (c : Case) where
   spans ms = cyclesOf (opening (c .words)) (closing (c .words)) (restartMark (c .words)) ms
 
   sum : List Move → ℕ
-  unfolding spans totalMs cycleMs wrapped unitMs tickUnit
-  sum ms = totalMs (tickUnit (c .words)) (c .ticks) (spans ms)
+  unfolding spans totalMs cycleMs wrapped
+  sum ms = totalMs (c .ticks) (spans ms)
 
   agrees : Expected → Outcome (List Move) → Bool
   unfolding spans sum editsAgree rulesAgree paceAgrees isAscending
@@ -53,25 +54,41 @@ module _ (c : Case) where
   agreed none = false
   agreed (some o) = agrees (c .expected) o
 
-  passes : Bool
-  unfolding agreed outcomeOf fitsLog
-  passes =
-      eqb (length (c .ticks)) (length (c .log))
-      && agreed (outcomeOf (c .words) (c .log) (c .lent) ruleRoom (fitsLog (c .words) (c .log)))
+  -- What the report asks besides: a tick for each token, and that the unit is not 1.
+  isTimed : Bool
+  unfolding tickUnit
+  isTimed = eqb (length (c .ticks)) (length (c .log)) && not (eqb (tickUnit (c .words)) 1)
 
-  -- What the log comes to, whatever else is asked under refusal 10 and holds.
+  passes : Bool
+  unfolding isTimed agreed outcomeOf fitsLog
+  passes = isTimed && agreed (outcomeOf (c .words) (c .log) (c .lent) ruleRoom (fitsLog (c .words) (c .log)))
+
+  Timed : Type 0
+  Timed = (length (c .ticks) ≡ length (c .log)) × (tickUnit (c .words) ≡ 1 → ⊥)
+
+  timed-told : T isTimed → Timed
+  unfolding isTimed Timed
+  timed-told h =
+      let same = eqb (length (c .ticks)) (length (c .log)) in
+      let one = eqb (tickUnit (c .words)) 1 in
+      (eqb→eq (length (c .ticks)) (length (c .log)) (left-of same (not one) h), not-one (tickUnit (c .words)) (right-of same (not one) h))
+    where
+      not-one : (n : ℕ) → T (not (eqb n 1)) → n ≡ 1 → ⊥
+      not-one n h e = subst (λ (m : ℕ). T (not (eqb m 1))) e h
+
+  -- What the log comes to, whatever else is asked and holds.
   Came : Outcome (List Move) → Type 1
-  Came o = (Asked : Type 0) → Asked
+  Came o = (Asked : Asks) → Asked .under-10 → Lowest (Asked .behind-10) none
       → Parses Asked (c .words) (c .log) (c .lent) ruleRoom o (left (λ ms. editWords (edits ms)) (c .lent) o) (left ruleNumbers ruleRoom o)
 
   parsed : (o : Outcome (List Move)) → Came o
       → Parsed (c .words) (c .log) (c .lent) ruleRoom (answered o) (left (λ ms. editWords (edits ms)) (c .lent) o)
       (left ruleNumbers ruleRoom o)
   unfolding Came
-  parsed o k = record { outcome = o; parses = k (Unit {0}) tt; answers = refl }
+  parsed o k = record { outcome = o; parses = k noMore tt all-met; answers = refl }
 
-  agrees-gives : (e : Expected) (o : Outcome (List Move)) → length (c .ticks) ≡ length (c .log) → Came o → T (agrees e o) → GivesAs c e
-  unfolding agrees answered left spans sum Came
+  agrees-gives : (e : Expected) (o : Outcome (List Move)) → Timed → Came o → T (agrees e o) → GivesAs c e
+  unfolding agrees answered left spans sum Came Timed
   agrees-gives (result told) (given ms) same k h =
       let cs = spans ms in
       let a = eqb (length ms) (told .moves) in
@@ -84,32 +101,37 @@ module _ (c : Case) where
       let last : T (f && g) = right-of d (f && g) back in
       record {
         counts = countsOf ms;
-        report = reportOf (tickUnit (c .words)) (c .ticks) cs;
+        report = reportOf (c .ticks) cs;
         editBuffer = filled (c .lent) (editWords (edits ms));
         ruleBuffer = filled ruleRoom (ruleNumbers ms);
         parsed = parsed (given ms) k;
         reported = record {
           outcome = given ms;
-          parses = k (length (c .ticks) ≡ length (c .log)) same;
+          parses = k (timed (tickUnit (c .words)) (c .log) (c .ticks)) (same .0) (holds-alone (same .1));
           reports = ReportsBy.paced (clean-cycles (opening (c .words)) (closing (c .words)) (restartMark (c .words)) ms (left-of f g last));
         };
         moves = eqb→eq (length ms) (told .moves) (left-of a b front);
         edits = edits-agree (c .lent) (told .edits) ms (right-of a b front);
         rules = rules-agree (told .rules) ms (left-of d (f && g) back);
-        pace = pace-agrees (told .pace) (tickUnit (c .words)) (c .ticks) cs (right-of f g last);
+        pace = pace-agrees (told .pace) (c .ticks) cs (right-of f g last);
       }
   agrees-gives (refuses number) (refused r) same k h =
       record {
         refusal = r;
         numbered = eqb→eq (numberOf r) number h;
         parsed = parsed (refused r) k;
-        reported = record { outcome = refused r; parses = k (length (c .ticks) ≡ length (c .log)) same; reports = ReportsBy.unpaced };
+        reported =
+            record {
+              outcome = refused r;
+              parses = k (timed (tickUnit (c .words)) (c .log) (c .ticks)) (same .0) (holds-alone (same .1));
+              reports = ReportsBy.unpaced;
+            };
       }
 
   -- The model's test passes: the definitions give the case.
   passes-gives : T passes → Gives c
   unfolding passes Came
-  passes-gives h = go (outcomeOf ws log (c .lent) ruleRoom (fitsLog ws log)) refl (right-of same (agreed
+  passes-gives h = go (outcomeOf ws log (c .lent) ruleRoom (fitsLog ws log)) refl (right-of isTimed (agreed
       (outcomeOf ws log (c .lent) ruleRoom (fitsLog ws log))) h)
     where
       ws : List ℕ
@@ -118,19 +140,16 @@ module _ (c : Case) where
       log : List ℕ
       log = c .log
 
-      same : Bool
-      same = eqb (length (c .ticks)) (length (c .log))
-
-      ticked : length (c .ticks) ≡ length (c .log)
-      ticked = eqb→eq (length (c .ticks)) (length log) (left-of same (agreed (outcomeOf ws log (c .lent) ruleRoom (fitsLog ws log))) h)
+      told : Timed
+      told = timed-told (left-of isTimed (agreed (outcomeOf ws log (c .lent) ruleRoom (fitsLog ws log))) h)
 
       go : (o : Option (Outcome (List Move))) → outcomeOf ws log (c .lent) ruleRoom (fitsLog ws log) ≡ o → T (agreed o) → Gives c
       go (some o) e k =
-          agrees-gives (c .expected) o ticked
-          (λ Asked a.
+          agrees-gives (c .expected) o told
+          (λ Asked a behind.
           record {
             settled =
-                settled ws log (c .lent) ruleRoom Asked o (fitsLog ws log)
+                settled ws log (c .lent) ruleRoom Asked behind o (fitsLog ws log)
                 (iff-test (log-test ws log) (λ f. (f, a)) (λ f. f .0)) e;
             leaves-edits = refl;
             leaves-rules = refl;

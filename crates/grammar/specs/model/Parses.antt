@@ -1,5 +1,5 @@
--- What a log comes to by the words, by tests: the lowest refusal before the run, or the run. `Asked` is what the
--- parser or the report asks besides under refusal 10.
+-- What a log comes to by the words, by tests: the lowest refusal before the run, or the run. `Asked` is what the parser or the report
+-- asks besides, of which all that stands behind refusal 10 holds.
 use Prim.Native.Nat.{ℕ, zero, suc, _+_, _*_, _<_}
 use mathlib.Core.Path.{_≡_, refl, subst}
 use mathlib.Core.Bool.{Bool, true, false, _&&_}
@@ -12,9 +12,9 @@ use Rattle.grammar.specs.Words.{END, Shaped, terminalCount, nonterminalC
 use Rattle.grammar.specs.Derivation.{All}
 use Rattle.grammar.specs.Grammar.{Verdict, startOverEnd}
 use Rattle.grammar.specs.Moves.{Move}
-use Rattle.grammar.specs.Run.{LogFits, runConditions, RunOf, Settled, started}
+use Rattle.grammar.specs.Run.{LogFits, Asks, runConditions, RunOf, Settled, started}
 use Rattle.grammar.specs.Refusals.{Lowest, Outcome, given, refused}
-use Rattle.grammar.specs.theory.Conditions.{all-met, applies, passes, held-front, refused-front}
+use Rattle.grammar.specs.theory.Conditions.{applies, passes, held-front, refused-front}
 use Rattle.grammar.specs.theory.Good.{accepted}
 use Rattle.grammar.specs.declared.Refusal.{Refusal}
 use Rattle.grammar.specs.declared.Refusal.the-variants.{BadLog}
@@ -98,7 +98,7 @@ unfoldable pub outcomeOf : List ℕ → List ℕ → ℕ → ℕ → Bool → Op
 unfolding byVerdict verdictOf
 outcomeOf ws log eR rR fits = byVerdict ws log eR rR fits (verdictOf ws)
 
-module _ (ws log : List ℕ) (eR rR : ℕ) (Asked : Type 0) where
+module _ (ws log : List ℕ) (eR rR : ℕ) (Asked : Asks) (behind : Lowest (Asked .behind-10) none) where
   ended : (o : Option Refusal) {ms : List Move} → Lowest (runConditions ws log Asked) none → RunOf ws log eR rR ms o
       → Settled (runConditions ws log Asked) (RunOf ws log eR rR) (ending ms o)
   unfolding ending
@@ -113,11 +113,12 @@ module _ (ws log : List ℕ) (eR rR : ℕ) (Asked : Type 0) where
   by-run c l (some d) r e =
       subst (Settled (runConditions ws log Asked) (RunOf ws log eR rR)) (some-same e) (ended (d .end) l (r d refl))
 
-  by-log : (c : Outcome (List Move)) → Verdict ws none → Shaped ws → T (costsReady ws) → (b : Bool) → Reflects b (LogFits ws log × Asked)
+  by-log : (c : Outcome (List Move)) → Verdict ws none → Shaped ws → T (costsReady ws) → (b : Bool)
+      → Reflects b (LogFits ws log × Asked .under-10)
       → byLog ws log eR rR b ≡ some c → Settled (runConditions ws log Asked) (RunOf ws log eR rR) c
   unfolding byLog
   by-log c v s ready true t e =
-      by-run c (held-front v (passes (t .says tt) all-met))
+      by-run c (held-front v (passes (t .says tt) behind))
       (runs (testsOf ws) (record { height = 256; editRoom = eR; ruleRoom = rR }) (fuelFor ws log) (started startOverEnd log))
       (λ f q.
       ran (testsOf ws) (decided ws s ready) (record { height = 256; editRoom = eR; ruleRoom = rR }) (fuelFor ws log)
@@ -127,7 +128,8 @@ module _ (ws log : List ℕ) (eR rR : ℕ) (Asked : Type 0) where
       subst (Settled (runConditions ws log Asked) (RunOf ws log eR rR)) (some-same e)
       (Settled.before (held-front v (applies (λ m. t .said m))))
 
-  by-verdict : (c : Outcome (List Move)) (b : Bool) → Reflects b (LogFits ws log × Asked) → (o : Option (Option Refusal)) → verdictOf ws ≡ o
+  by-verdict : (c : Outcome (List Move)) (b : Bool) → Reflects b (LogFits ws log × Asked .under-10) → (o : Option (Option Refusal))
+      → verdictOf ws ≡ o
       → byVerdict ws log eR rR b o ≡ some c → Settled (runConditions ws log Asked) (RunOf ws log eR rR) c
   unfolding byVerdict
   by-verdict c b t none q e = absurd (none-some e)
@@ -138,7 +140,7 @@ module _ (ws log : List ℕ) (eR rR : ℕ) (Asked : Type 0) where
       (Settled.before (refused-front _ (judged ws (some r) q)))
 
   -- Where the model has an outcome, it is document 01's.
-  pub settled : (c : Outcome (List Move)) (b : Bool) → Reflects b (LogFits ws log × Asked) → outcomeOf ws log eR rR b ≡ some c
+  pub settled : (c : Outcome (List Move)) (b : Bool) → Reflects b (LogFits ws log × Asked .under-10) → outcomeOf ws log eR rR b ≡ some c
       → Settled (runConditions ws log Asked) (RunOf ws log eR rR) c
   unfolding outcomeOf
   settled c b t e = by-verdict c b t (verdictOf ws) refl e

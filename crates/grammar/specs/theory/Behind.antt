@@ -1,33 +1,38 @@
--- Request (vi): a header says its numbers, and everything else stands behind it. So two headers that say the same in front of the same
--- words mean the same, whatever their lengths; and a seven-word header with restart mark 0 says what the six-word one says.
---     SameHeader, headers-alike        two such lists
---     sevenWords, sixForm, form-alike  a seven-word grammar with restart mark 0, and its six-word form
+-- A header says its numbers, and everything else stands behind it. So two headers that say the same in front of the same words mean the
+-- same but for the unit, whatever their lengths. Request (vi): a seven-word header with restart mark 0 says what the six-word one says;
+-- request (viii): so does one with the other unit.
+--     SameHeader, headers-alike                 two such lists
+--     sevenWords, sixForm, form-alike           a seven-word grammar with restart mark 0, and its six-word form
+--     units-alike                               two lists that differ in the unit only
 use Prim.Native.Nat.{ℕ, zero, suc, _+_, _*_, _≤_, _<_}
 use mathlib.Core.Path.{_≡_, refl, sym, ap, ap₂, subst, subst₂, subst₃, fun-ext, _∙_}
+use mathlib.Core.Bool.{Bool, true, false, cond}
 use mathlib.Core.List.{List, [], _∷_}
+use mathlib.Core.Logic.{_↔_}
 use native.Mathlib.Omega.{arith}
 use lib.ListN.{length, take, drop, length-drop, drop-of-length-le}
+use lib.Dec.{ltb}
 use lib.Seq.{getD-drop}
 use Rattle.grammar.specs.Words.{END, word, RuleSymbol, Marks, Restart, Shaped, TerminalWords, RuleWords}
-use Rattle.grammar.specs.Words.{headerSize, terminalCount, nonterminalCount, ruleCount, opening, closing, tickUnit, restartMark}
+use Rattle.grammar.specs.Words.{isLong, headerSize, terminalCount, nonterminalCount, ruleCount, opening, closing, tickUnit, restartMark}
 use Rattle.grammar.specs.Words.{insertCost, reliability, rulePlace, leftSide, rightSize, rightSide}
 use Rattle.grammar.specs.Grammar.{RuleOf, Reliable, grammarOf, conditionsOf, meaningOf}
 use Rattle.grammar.specs.theory.Headers.{long-terminals, long-size, long-restart, short-terminals, short-size, short-restart}
 use Rattle.grammar.specs.theory.Meanings.{SameConditions, Alike, same-conditions}
-use Rattle.grammar.specs.theory.SameGrammars.{SameGrammar}
+use Rattle.grammar.specs.theory.SameGrammars.{SameGrammar, other-way}
 
 -- The words behind the header.
 abbrev behind : List ℕ → List ℕ
 behind ws = drop (headerSize ws) ws
 
--- The headers say the same, in front of the same words.
+-- The headers say the same, in front of the same words; and the unit of both is 0 or 1, or of neither.
 pub record SameHeader (ws vs : List ℕ) : Type 0 where
   pub terminals : terminalCount ws ≡ terminalCount vs
   pub nonterminals : nonterminalCount ws ≡ nonterminalCount vs
   pub rules : ruleCount ws ≡ ruleCount vs
   pub opening : opening ws ≡ opening vs
   pub closing : closing ws ≡ closing vs
-  pub unit : tickUnit ws ≡ tickUnit vs
+  pub unit : (tickUnit ws ≤ 1) ↔ (tickUnit vs ≤ 1)
   pub restart : restartMark ws ≡ restartMark vs
   pub rest : behind ws ≡ behind vs
 
@@ -39,7 +44,7 @@ same-header-sym s =
       rules = sym (s .rules);
       opening = sym (s .opening);
       closing = sym (s .closing);
-      unit = sym (s .unit);
+      unit = other-way (s .unit);
       restart = sym (s .restart);
       rest = sym (s .rest);
     }
@@ -180,7 +185,7 @@ module _ (ws vs : List ℕ) (same : SameHeader ws vs) where
         rules-low = subst (λ n. 1 ≤ n) (same .rules) (s .rules-low);
         rules-high = subst (λ n. n ≤ 256) (same .rules) (s .rules-high);
         marks = subst₃ Marks (same .terminals) (same .opening) (same .closing) (s .marks);
-        unit = subst (λ n. n ≤ 1) (same .unit) (s .unit);
+        unit = same .unit .0 (s .unit);
         restart = subst (λ m. Restart (terminalCount vs) (opening vs) (closing vs) m) (same .restart)
             (subst₃ (λ T o c. Restart T o c (restartMark ws)) (same .terminals) (same .opening) (same .closing) (s .restart));
         end-cost = sym (cost-same END) ∙ s .end-cost;
@@ -219,7 +224,6 @@ module _ (ws vs : List ℕ) (same : SameHeader ws vs) where
         opening = same .opening;
         closing = same .closing;
         restart = same .restart;
-        unit = same .unit;
       }
 
 -- ---- A seven-word grammar with restart mark 0, and its six-word form
@@ -241,7 +245,7 @@ form-alike T N P o c u rest some few =
       rules = refl;
       opening = refl;
       closing = refl;
-      unit = refl;
+      unit = (λ h. h, λ h. h);
       restart = long-restart seven long ∙ sym (short-restart six short);
       rest = ap (λ h. drop h seven) (long-size seven long) ∙ sym (ap (λ h. drop h six) (short-size six short));
     })
@@ -257,3 +261,37 @@ form-alike T N P o c u rest some few =
 
     short : T ≤ 256
     short = omega arith
+
+pub form-unit : (T N P o c u : ℕ) (rest : List ℕ) → tickUnit (sevenWords T N P o c u rest) ≡ tickUnit (sixForm T N P o c u rest)
+unfolding tickUnit
+form-unit T N P o c u rest = refl
+
+-- ---- Two lists that differ in the unit only
+
+-- What stands behind the header does not hold the unit.
+behind-units : (b : Bool) (w N P o c u v : ℕ) (rest : List ℕ)
+    → drop (cond b 7 6) (w ∷ N ∷ P ∷ o ∷ c ∷ u ∷ rest) ≡ drop (cond b 7 6) (w ∷ N ∷ P ∷ o ∷ c ∷ v ∷ rest)
+behind-units true w N P o c u v [] = refl
+behind-units true w N P o c u v (m ∷ rest) = refl
+behind-units false w N P o c u v rest = refl
+
+restart-units : (b : Bool) (w N P o c u v : ℕ) (rest : List ℕ)
+    → cond b (word (w ∷ N ∷ P ∷ o ∷ c ∷ u ∷ rest) 6) 0 ≡ cond b (word (w ∷ N ∷ P ∷ o ∷ c ∷ v ∷ rest) 6) 0
+restart-units true w N P o c u v rest = refl
+restart-units false w N P o c u v rest = refl
+
+pub units-alike : (w N P o c u v : ℕ) (rest : List ℕ) → (u ≤ 1) ↔ (v ≤ 1)
+    → Alike (meaningOf (w ∷ N ∷ P ∷ o ∷ c ∷ u ∷ rest)) (meaningOf (w ∷ N ∷ P ∷ o ∷ c ∷ v ∷ rest))
+unfolding isLong headerSize terminalCount nonterminalCount ruleCount opening closing tickUnit restartMark
+units-alike w N P o c u v rest either =
+    headers-alike (w ∷ N ∷ P ∷ o ∷ c ∷ u ∷ rest) (w ∷ N ∷ P ∷ o ∷ c ∷ v ∷ rest)
+    (record {
+      terminals = refl;
+      nonterminals = refl;
+      rules = refl;
+      opening = refl;
+      closing = refl;
+      unit = either;
+      restart = restart-units (ltb 256 w) w N P o c u v rest;
+      rest = behind-units (ltb 256 w) w N P o c u v rest;
+    })

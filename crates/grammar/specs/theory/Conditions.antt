@@ -83,15 +83,30 @@ split-first (c ∷ cs) ds (inr a) = let k = split-first cs ds (a .1) in (inr (a 
 pub held-both : (cs ds : List Condition) → Lowest (cs ++ ds) none → Lowest cs none × Lowest ds none
 held-both cs ds l = let k = split-first cs ds (l .is) in (record { is = k .0 }, record { is = k .1 })
 
--- A last condition that says the same.
-last-first : (cs : List Condition) (r : Refusal) (P Q : Type 0) (o : Option Refusal) → (P → Q) → (Q → P)
-    → FirstFailing (cs ++ ((r unless P) ∷ [])) o → FirstFailing (cs ++ ((r unless Q) ∷ [])) o
+-- A condition that says the same, behind which the rest comes to the same.
+from-first : (cs : List Condition) (r : Refusal) (P Q : Type 0) (ds es : List Condition) (o : Option Refusal) → (P → Q) → (Q → P)
+    → (P → FirstFailing ds o → FirstFailing es o)
+    → FirstFailing (cs ++ ((r unless P) ∷ ds)) o → FirstFailing (cs ++ ((r unless Q) ∷ es)) o
 unfolding FirstFailing
-last-first [] r P Q o f g (inl a) = inl (λ q. a .0 (g q), a .1)
-last-first [] r P Q o f g (inr a) = inr (f (a .0), a .1)
-last-first (c ∷ cs) r P Q o f g (inl a) = inl a
-last-first (c ∷ cs) r P Q o f g (inr a) = inr (a .0, last-first cs r P Q o f g (a .1))
+from-first [] r P Q ds es o f g k (inl a) = inl (λ q. a .0 (g q), a .1)
+from-first [] r P Q ds es o f g k (inr a) = inr (f (a .0), k (a .0) (a .1))
+from-first (c ∷ cs) r P Q ds es o f g k (inl a) = inl a
+from-first (c ∷ cs) r P Q ds es o f g k (inr a) = inr (a .0, from-first cs r P Q ds es o f g k (a .1))
 
-pub lowest-last : (cs : List Condition) (r : Refusal) {P Q : Type 0} {o : Option Refusal} → (P → Q) → (Q → P)
-    → Lowest (cs ++ ((r unless P) ∷ [])) o → Lowest (cs ++ ((r unless Q) ∷ [])) o
-lowest-last cs r {P} {Q} {o} f g l = record { is = last-first cs r P Q o f g (l .is) }
+pub lowest-from : (cs : List Condition) (r : Refusal) {P Q : Type 0} (ds es : List Condition) {o : Option Refusal} → (P → Q) → (Q → P)
+    → (P → Lowest ds o → Lowest es o) → Lowest (cs ++ ((r unless P) ∷ ds)) o → Lowest (cs ++ ((r unless Q) ∷ es)) o
+lowest-from cs r {P} {Q} ds es {o} f g k l =
+    record { is = from-first cs r P Q ds es o f g (λ p h. k p (record { is = h }) .is) (l .is) }
+
+-- A condition alone that holds: none fails,
+pub holds-alone : {r : Refusal} {P : Type 0} → P → Lowest ((r unless P) ∷ []) none
+holds-alone h = passes h all-met
+
+-- and it is as if it were not there.
+pub none-fails : {c : Condition} {o : Option Refusal} → c .holds → Lowest (c ∷ []) o → Lowest [] o
+unfolding FirstFailing
+none-fails {c} {o} h l = record { is = go (l .is) }
+  where
+    go : FirstFailing (c ∷ []) o → FirstFailing [] o
+    go (inl a) = absurd (a .0 h)
+    go (inr a) = a .1

@@ -10,17 +10,18 @@ use mathlib.Core.Logic.{_↔_, Iff·trans}
 use mathlib.Core.List.{List, [], _∷_, _++_}
 use mathlib.Core.Option.{Option, none, some}
 use lib.ListN.{length, getD}
-use Rattle.grammar.specs.Words.{START, END, Shaped, nonterminalCount, ruleCount, rightSize, insertCost, opening, closing, restartMark}
+use Rattle.grammar.specs.Words.{START, END, Shaped, nonterminalCount, ruleCount, rightSize, insertCost}
+use Rattle.grammar.specs.Words.{opening, closing, tickUnit, restartMark}
 use Rattle.grammar.specs.Derivation.{Derives, All, Yields}
 use Rattle.grammar.specs.Derivation.{Reachable, Productive, NoneShared}
 use Rattle.grammar.specs.Grammar.{RuleOf, Affordable, EachNonterminal, Verdict, grammarOf, startOverEnd, grammarConditions}
 use Rattle.grammar.specs.Buffers.{filled, cleared}
 use Rattle.grammar.specs.Moves.{Move, Edit, edits, editWords, ruleNumbers, repaired, passed, placed}
 use Rattle.grammar.specs.Run.{Plausible, Hit, Pop, Choice, correcting}
-use Rattle.grammar.specs.Run.{LogFits, runConditions, RunOf, countsOf, Parses, Parsed}
-use Rattle.grammar.specs.Refusals.{Outcome, given, refused}
+use Rattle.grammar.specs.Run.{LogFits, Asks, noMore, runConditions, RunOf, countsOf, Parses, Parsed}
+use Rattle.grammar.specs.Refusals.{Condition, Outcome, given, refused}
 use Rattle.grammar.specs.File.{fileConditions, fileWords, FileRead}
-use Rattle.grammar.specs.Pace.{Span, Clean, Reported}
+use Rattle.grammar.specs.Pace.{Span, Clean, timed, Reported}
 use Rattle.grammar.specs.declared.Refusal.{Refusal}
 use Rattle.grammar.specs.declared.Report.{Report}
 use Rattle.grammar.specs.declared.Counts.{Counts}
@@ -30,7 +31,8 @@ use Rattle.grammar.specs.theory.States.{LogToken}
 use Rattle.grammar.specs.theory.Chosen as Chosen
 use Rattle.grammar.specs.theory.Answers as Answers
 use Rattle.grammar.specs.theory.Conditions.{Held}
-use Rattle.grammar.specs.theory.Due.{Due, InOrder, lowest-held}
+use Rattle.grammar.specs.theory.Due as Due
+use Rattle.grammar.specs.theory.Due.{Due, InOrder, LowestNumber, lowest-held}
 use Rattle.grammar.specs.theory.Fills.{fills-exactly, fills-zeros, fills-content}
 use Rattle.grammar.specs.theory.Refused as Refused
 use Rattle.grammar.specs.theory.Refused.{Given}
@@ -48,12 +50,23 @@ use Rattle.grammar.specs.cases.Bound as Bound
 
 -- ======== Demand 1: every input gets its answer, each refusal exactly when the table says
 
--- A refusal is due (`Due`) where its condition fails and every condition of a lower number holds. The lists of conditions stand
--- in the order of their numbers, so that it is the first one to fail.
-pub in-order : (bytes ws log : List ℕ) (room : ℕ) (Asked : Type 0)
-    → InOrder (fileConditions bytes room) × InOrder (grammarConditions ws) × InOrder (runConditions ws log Asked)
-in-order bytes ws log room Asked =
-    (Refused.file-in-order bytes room, Refused.grammar-in-order ws, Refused.run-in-order ws log Asked)
+-- A refusal is due (`Due`) where its condition fails and every condition before it holds. The lists of conditions stand in the order of
+-- their numbers: those of the file, of the grammar, and before the parser's and the report's run.
+pub in-order : (bytes ws log ticks : List ℕ) (room : ℕ)
+    → InOrder (fileConditions bytes room)
+    × InOrder (grammarConditions ws)
+    × InOrder (runConditions ws log noMore)
+    × InOrder (runConditions ws log (timed (tickUnit ws) log ticks))
+in-order bytes ws log ticks room = (
+  Refused.file-in-order bytes room,
+  Refused.grammar-in-order ws,
+  Refused.parser-in-order ws log,
+  Refused.report-in-order (tickUnit ws) ws log ticks,
+)
+
+-- So what is due has "the lowest applicable number": its condition fails, and every condition of a lower number holds.
+pub lowest-number : {cs : List Condition} → InOrder cs → (r : Refusal) → Due cs r ↔ LowestNumber cs r
+lowest-number order r = Due.lowest-number order r
 
 -- What an answer keeps: each refusal is given exactly where `Refuses` says, and leaves `Zeros`; values come with what `Holds` says.
 pub record Answered {A : Type 0} (answer : Outcome A) (Refuses : Refusal → Type 0) (Zeros : Type 0) (Holds : A → Type 0) : Type 0 where
@@ -65,16 +78,16 @@ pub record Answered {A : Type 0} (answer : Outcome A) (Refuses : Refusal → Typ
 pub reader-answers : {bytes : List ℕ} {room : ℕ} {a : Outcome ℕ} {x : List ℕ} → FileRead bytes room a x
     → Answered a (Due (fileConditions bytes room)) (x ≡ cleared room)
     (λ n. (n ≡ length (fileWords bytes)) × (x ≡ filled room (fileWords bytes)))
-reader-answers {bytes} {room} p =
+reader-answers p =
     record {
-      exactly = fills-exactly (Refused.file-in-order bytes room) (p .read);
+      exactly = fills-exactly (p .read);
       zeros = λ r e. fills-zeros (p .read) e;
       holds = λ n e. let content = fills-content (p .read) e in (content .count, content .holds);
     }
 
 -- The check: a refusal that is due. It has no buffer.
 pub check-answers : {ws : List ℕ} {o : Option Refusal} → Verdict ws o → (r : Refusal) → (o ≡ some r) ↔ Due (grammarConditions ws) r
-check-answers {ws} v = Refused.lowest-exactly (Refused.grammar-in-order ws) v
+check-answers v = Refused.lowest-exactly v
 
 -- The buffers of a parse: zeros; or the words of the moves, zeros behind them.
 abbrev pub Blank : ℕ → ℕ → List ℕ → List ℕ → Type 0
@@ -86,7 +99,7 @@ pub record Lists (editRoom ruleRoom : ℕ) (x y : List ℕ) (counts : Counts) : 
   pub edit-words : x ≡ filled editRoom (editWords (edits moves))
   pub rule-words : y ≡ filled ruleRoom (ruleNumbers moves)
 
-lists : {Asked : Type 0} {ws log : List ℕ} {editRoom ruleRoom : ℕ} {o : Outcome (List Move)} {x y : List ℕ} {counts : Counts}
+lists : {Asked : Asks} {ws log : List ℕ} {editRoom ruleRoom : ℕ} {o : Outcome (List Move)} {x y : List ℕ} {counts : Counts}
     → Parses Asked ws log editRoom ruleRoom o x y → ((ms : List Move) × (o ≡ given ms) × (counts ≡ countsOf ms))
     → Lists editRoom ruleRoom x y counts
 lists p m =
@@ -95,7 +108,7 @@ lists p m =
 
 -- The parser: a refusal that is due before the run, or, where none is, the one that a move of the run meets (`Given`).
 pub parser-answers : {ws log : List ℕ} {editRoom ruleRoom : ℕ} {a : Outcome Counts} {x y : List ℕ} → Parsed ws log editRoom ruleRoom a x y
-    → Answered a (Given (Unit {0}) ws log editRoom ruleRoom) (Blank editRoom ruleRoom x y) (Lists editRoom ruleRoom x y)
+    → Answered a (Given noMore ws log editRoom ruleRoom) (Blank editRoom ruleRoom x y) (Lists editRoom ruleRoom x y)
 parser-answers p =
     record {
       exactly = λ r. Iff·trans (Refused.answered-refused r (p .answers)) (Refused.parses-exactly (p .parses) r);
@@ -103,10 +116,10 @@ parser-answers p =
       holds = λ a e. lists (p .parses) (Refused.answered-given (p .outcome) (sym e ∙ p .answers));
     }
 
--- The report: the same, with as many ticks as tokens asked under 10.
+-- The report: the same, with as many ticks as tokens asked under 10, and 16 behind it.
 pub report-answers : {ws log ticks : List ℕ} {editRoom ruleRoom : ℕ} {a : Outcome (Report × Counts)} {x y : List ℕ}
     → Reported ws log ticks editRoom ruleRoom a x y
-    → Answered a (Given (length ticks ≡ length log) ws log editRoom ruleRoom) (Blank editRoom ruleRoom x y)
+    → Answered a (Given (timed (tickUnit ws) log ticks) ws log editRoom ruleRoom) (Blank editRoom ruleRoom x y)
     (λ given. Lists editRoom ruleRoom x y (given .1))
 report-answers p =
     record {

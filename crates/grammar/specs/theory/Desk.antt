@@ -58,7 +58,7 @@ module _ {ws : List ℕ} {costRoom ruleRoom : ℕ} where
   refused-due (DeskBy.give l c) e = absurd (given-refused refl e)
   refused-due (DeskBy.refuse {r = q} l) e =
       subst (λ r. Due (deskConditions ws costRoom ruleRoom) r) (refused-same e)
-      (lowest-due (deskConditions ws costRoom ruleRoom) (desk-in-order ws costRoom ruleRoom) q .0 l)
+      (lowest-due (deskConditions ws costRoom ruleRoom) q .0 l)
 
   -- A refusal is given exactly where it is due,
   pub desk-exactly : {a : Outcome ℕ} {x u : List ℕ} → DeskAnswer ws costRoom ruleRoom a x u → (r : Refusal)
@@ -66,7 +66,7 @@ module _ {ws : List ℕ} {costRoom ruleRoom : ℕ} where
   desk-exactly p r = (
     λ e. refused-due p e,
     λ d. desk-unique p
-        (DeskBy.refuse (lowest-due (deskConditions ws costRoom ruleRoom) (desk-in-order ws costRoom ruleRoom) r .1 d)) .0,
+        (DeskBy.refuse (lowest-due (deskConditions ws costRoom ruleRoom) r .1 d)) .0,
   )
 
   -- and leaves zeros.

@@ -1,5 +1,5 @@
--- Demand 1: when a refusal is due. Its condition fails, and every condition of a lower number holds; where conditions stand in
--- the order of their numbers, that is the first one to fail.
+-- Demand 1: when a refusal is due. Its condition fails, and every condition that is tested before it holds; where conditions stand in the
+-- order of their numbers, that is "the lowest applicable number".
 use Prim.Native.Nat.{ℕ, _≤_, _<_}
 use mathlib.Core.Path.{_≡_, refl, sym, ap}
 use mathlib.Core.List.{List, [], _∷_}
@@ -9,6 +9,33 @@ use native.Mathlib.Omega.{arith}
 use Rattle.grammar.specs.Refusals.{numberOf, Condition, FirstFailing, Lowest}
 use Rattle.grammar.specs.declared.Refusal.{Refusal}
 use Rattle.grammar.specs.theory.Conditions.{Held, held, some-none}
+
+-- Refusal r is due, of conditions in the order in which they are tested: its own fails, and all before it hold.
+unfoldable pub Due : List Condition → Refusal → Type 0
+Due [] r = ⊥
+Due (c ∷ cs) r = ((c .refusal ≡ r) × (c .holds → ⊥)) ⊎ (c .holds × Due cs r)
+
+-- ---- The refusal that is given is the one that is due
+
+some-same : {r q : Refusal} → _≡_ (some r) (some q) → r ≡ q
+some-same e = cc
+
+first-due : (cs : List Condition) (r : Refusal) → FirstFailing cs (some r) → Due cs r
+unfolding FirstFailing Due
+first-due [] r e = absurd (some-none e refl)
+first-due (c ∷ cs) r (inl f) = inl (sym (some-same (f .1)), f .0)
+first-due (c ∷ cs) r (inr f) = inr (f .0, first-due cs r (f .1))
+
+due-first : (cs : List Condition) (r : Refusal) → Due cs r → FirstFailing cs (some r)
+unfolding FirstFailing Due
+due-first [] r d = absurd d
+due-first (c ∷ cs) r (inl f) = inl (f .1, ap some (sym (f .0)))
+due-first (c ∷ cs) r (inr f) = inr (f .0, due-first cs r (f .1))
+
+pub lowest-due : (cs : List Condition) (r : Refusal) → Lowest cs (some r) ↔ Due cs r
+lowest-due cs r = (λ l. first-due cs r (l .is), λ d. record { is = due-first cs r d })
+
+-- ---- By numbers
 
 -- The condition of refusal r is among these and fails.
 unfoldable pub Fails : List Condition → Refusal → Type 0
@@ -20,8 +47,8 @@ unfoldable pub HeldBelow : List Condition → ℕ → Type 0
 HeldBelow [] n = Unit {0}
 HeldBelow (c ∷ cs) n = (numberOf (c .refusal) < n → c .holds) × HeldBelow cs n
 
--- Refusal r is due: "the lowest applicable number".
-pub record Due (cs : List Condition) (r : Refusal) : Type 0 where
+-- "The lowest applicable number": the condition of r fails, and all of lower numbers hold.
+pub record LowestNumber (cs : List Condition) (r : Refusal) : Type 0 where
   pub fails : Fails cs r
   pub lower : HeldBelow cs (numberOf r)
 
@@ -33,8 +60,6 @@ Above n (c ∷ cs) = (n < numberOf (c .refusal)) × Above (numberOf (c .refusal)
 -- The conditions stand in the order of their numbers.
 abbrev pub InOrder : List Condition → Type 0
 InOrder cs = Above 0 cs
-
--- ---- The lowest refusal is the one that is due
 
 fails-above : (n : ℕ) (cs : List Condition) (r : Refusal) → Above n cs → Fails cs r → n < numberOf r
 unfolding Above Fails
@@ -49,31 +74,28 @@ none-below n m (c ∷ cs) a l =
     let up = a .0 in
     (λ h. absurd (omega arith), none-below (numberOf (c .refusal)) m cs (a .1) (omega arith))
 
-some-same : {r q : Refusal} → _≡_ (some r) (some q) → r ≡ q
-some-same e = cc
-
-first-due : (n : ℕ) (cs : List Condition) (r : Refusal) → Above n cs → FirstFailing cs (some r) → Fails cs r × HeldBelow cs (numberOf r)
-unfolding Above Fails HeldBelow FirstFailing
-first-due n [] r a e = absurd (some-none e refl)
-first-due n (c ∷ cs) r a (inl f) =
-    let e : r ≡ c .refusal = some-same (f .1) in
-    let k : numberOf r ≡ numberOf (c .refusal) = ap numberOf e in
-    (inl (sym e, f .0), (λ h. absurd (omega arith), none-below (numberOf (c .refusal)) (numberOf r) cs (a .1) (omega arith)))
-first-due n (c ∷ cs) r a (inr f) =
-    let rest = first-due (numberOf (c .refusal)) cs r (a .1) (f .1) in
+due-lowest : (n : ℕ) (cs : List Condition) (r : Refusal) → Above n cs → Due cs r → Fails cs r × HeldBelow cs (numberOf r)
+unfolding Above Fails HeldBelow Due
+due-lowest n [] r a d = absurd d
+due-lowest n (c ∷ cs) r a (inl f) =
+    let k : numberOf r ≡ numberOf (c .refusal) = ap numberOf (sym (f .0)) in
+    (inl f, (λ h. absurd (omega arith), none-below (numberOf (c .refusal)) (numberOf r) cs (a .1) (omega arith)))
+due-lowest n (c ∷ cs) r a (inr f) =
+    let rest = due-lowest (numberOf (c .refusal)) cs r (a .1) (f .1) in
     (inr (rest .0), (λ h. f .0, rest .1))
 
-due-first : (n : ℕ) (cs : List Condition) (r : Refusal) → Above n cs → Fails cs r → HeldBelow cs (numberOf r) → FirstFailing cs (some r)
-unfolding Above Fails HeldBelow FirstFailing
-due-first n [] r a f l = absurd f
-due-first n (c ∷ cs) r a (inl f) l = inl (f .1, ap some (sym (f .0)))
-due-first n (c ∷ cs) r a (inr f) l =
-    inr (l .0 (fails-above (numberOf (c .refusal)) cs r (a .1) f), due-first (numberOf (c .refusal)) cs r (a .1) f (l .1))
+lowest-is-due : (n : ℕ) (cs : List Condition) (r : Refusal) → Above n cs → Fails cs r → HeldBelow cs (numberOf r) → Due cs r
+unfolding Above Fails HeldBelow Due
+lowest-is-due n [] r a f l = absurd f
+lowest-is-due n (c ∷ cs) r a (inl f) l = inl f
+lowest-is-due n (c ∷ cs) r a (inr f) l =
+    inr (l .0 (fails-above (numberOf (c .refusal)) cs r (a .1) f), lowest-is-due (numberOf (c .refusal)) cs r (a .1) f (l .1))
 
-pub lowest-due : (cs : List Condition) → InOrder cs → (r : Refusal) → Lowest cs (some r) ↔ Due cs r
-lowest-due cs a r = (
-  λ l. let d = first-due 0 cs r a (l .is) in record { fails = d .0; lower = d .1 },
-  λ d. record { is = due-first 0 cs r a (d .fails) (d .lower) },
+-- Of conditions in the order of their numbers, the one that is due has the lowest that applies.
+pub lowest-number : {cs : List Condition} → InOrder cs → (r : Refusal) → Due cs r ↔ LowestNumber cs r
+lowest-number {cs} a r = (
+  λ d. let l = due-lowest 0 cs r a d in record { fails = l .0; lower = l .1 },
+  λ l. lowest-is-due 0 cs r a (l .fails) (l .lower),
 )
 
 -- ---- No refusal is due exactly where all conditions hold

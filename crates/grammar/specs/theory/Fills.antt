@@ -12,7 +12,7 @@ use Rattle.grammar.specs.Buffers.{filled, cleared, Fills}
 use Rattle.grammar.specs.Refusals.{Condition, Lowest, Outcome, given, refused}
 use Rattle.grammar.specs.declared.Refusal.{Refusal}
 use Rattle.grammar.specs.theory.Conditions.{some-none, lowest-unique}
-use Rattle.grammar.specs.theory.Due.{Due, InOrder, lowest-due}
+use Rattle.grammar.specs.theory.Due.{Due, lowest-due}
 use Rattle.grammar.specs.theory.Outcomes.{given-refused, given-same, refused-same}
 
 -- No refusal applies: the n words of the content, zeros behind them.
@@ -29,13 +29,13 @@ module _ {cs : List Condition} {room : ℕ} {content : List ℕ} where
   fills-unique (Fills.refuse l) (Fills.fill k) = absurd (some-none refl (lowest-unique k l))
   fills-unique (Fills.refuse l) (Fills.refuse k) = let e = lowest-unique l k in (cc, refl)
 
-  refused-due : {a : Outcome ℕ} {x : List ℕ} {r : Refusal} → InOrder cs → Fills cs room content a x → a ≡ refused r → Due cs r
-  refused-due order (Fills.fill l) e = absurd (given-refused refl e)
-  refused-due order (Fills.refuse {r = q} l) e = subst (λ r. Due cs r) (refused-same e) (lowest-due cs order q .0 l)
+  refused-due : {a : Outcome ℕ} {x : List ℕ} {r : Refusal} → Fills cs room content a x → a ≡ refused r → Due cs r
+  refused-due (Fills.fill l) e = absurd (given-refused refl e)
+  refused-due (Fills.refuse {r = q} l) e = subst (λ r. Due cs r) (refused-same e) (lowest-due cs q .0 l)
 
   -- A refusal is given exactly where it is due,
-  pub fills-exactly : {a : Outcome ℕ} {x : List ℕ} → InOrder cs → Fills cs room content a x → (r : Refusal) → (a ≡ refused r) ↔ Due cs r
-  fills-exactly order p r = (λ e. refused-due order p e, λ d. fills-unique p (Fills.refuse (lowest-due cs order r .1 d)) .0)
+  pub fills-exactly : {a : Outcome ℕ} {x : List ℕ} → Fills cs room content a x → (r : Refusal) → (a ≡ refused r) ↔ Due cs r
+  fills-exactly p r = (λ e. refused-due p e, λ d. fills-unique p (Fills.refuse (lowest-due cs r .1 d)) .0)
 
   -- and leaves zeros.
   pub fills-zeros : {a : Outcome ℕ} {x : List ℕ} {r : Refusal} → Fills cs room content a x → a ≡ refused r → x ≡ cleared room

@@ -8,7 +8,7 @@ use Rattle.grammar.specs.Grammar.{Verdict}
 use Rattle.grammar.specs.Buffers.{filled}
 use Rattle.grammar.specs.Moves.{Move, edits, editWords, ruleNumbers}
 use Rattle.grammar.specs.Refusals.{Outcome, given, refused}
-use Rattle.grammar.specs.Run.{LogFits, runConditions, RunOf, Settled, countsOf, answered, left, Parses, Parsed}
+use Rattle.grammar.specs.Run.{LogFits, noMore, runConditions, RunOf, Settled, countsOf, answered, left, Parses, Parsed}
 use Rattle.grammar.specs.declared.Counts.{Counts}
 use Rattle.grammar.specs.theory.Outcomes.{given-refused, given-same}
 use Rattle.grammar.specs.theory.Answers.{verdict-held, log-held}
@@ -29,11 +29,11 @@ pub parsed-made : {ws log : List ℕ} {editRoom ruleRoom : ℕ} {counts : Counts
 unfolding answered left
 parsed-made {ws} {log} {editRoom} {ruleRoom} {counts} {x} {y} p = go (p .outcome) (p .parses) (p .answers)
   where
-    go : (o : Outcome (List Move)) → Parses (Unit {0}) ws log editRoom ruleRoom o x y → given counts ≡ answered o
+    go : (o : Outcome (List Move)) → Parses noMore ws log editRoom ruleRoom o x y → given counts ≡ answered o
         → Made ws log editRoom ruleRoom counts x y
     go (given ms) q a = at (q .settled)
       where
-        at : Settled (runConditions ws log (Unit {0})) (RunOf ws log editRoom ruleRoom) (given ms)
+        at : Settled (runConditions ws log noMore) (RunOf ws log editRoom ruleRoom) (given ms)
             → Made ws log editRoom ruleRoom counts x y
         at (Settled.whole l r) =
             record {

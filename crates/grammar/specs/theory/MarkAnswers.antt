@@ -8,7 +8,7 @@ use native.Mathlib.Omega.{arith}
 use lib.ListN.{length}
 use Rattle.grammar.specs.Buffers.{filled, cleared}
 use Rattle.grammar.specs.Moves.{Move, edits, editWords, ruleNumbers}
-use Rattle.grammar.specs.Run.{runConditions, RunOf, Settled, Parses, countsOf, left}
+use Rattle.grammar.specs.Run.{Asks, runConditions, RunOf, Settled, Parses, countsOf, left}
 use Rattle.grammar.specs.Marks.{Mark, MarksOf, Marks, MarksBy}
 use Rattle.grammar.specs.Refusals.{Lowest, Outcome, given, refused}
 use Rattle.grammar.specs.declared.Refusal.{Refusal}
@@ -23,7 +23,7 @@ use Rattle.grammar.specs.theory.Refused.{Given, given-settled, parses-ex
 
 -- Refusal q is given: the parse gives it; or it is 15, the run made the moves ms and ended, and their marks are more than the token buffer
 -- holds.
-pub data MarksRefuse (Asked : Type 0) (ws log : List ℕ) (editRoom ruleRoom tokenRoom : ℕ) (q : Refusal) : Type 0 where
+pub data MarksRefuse (Asked : Asks) (ws log : List ℕ) (editRoom ruleRoom tokenRoom : ℕ) (q : Refusal) : Type 0 where
   parsing : Given Asked ws log editRoom ruleRoom q → MarksRefuse Asked ws log editRoom ruleRoom tokenRoom q
   short : {ms : List Move} {xs : List Mark} → q ≡ ShortTokens → Held (runConditions ws log Asked) → RunOf ws log editRoom ruleRoom ms none
       → MarksOf ws ms xs → tokenRoom < length xs
@@ -42,7 +42,7 @@ pub record MarksGive (wordOf : Mark → ℕ) (ws log : List ℕ) (editRoom ruleR
   pub rule-words : u ≡ filled ruleRoom (ruleNumbers moves)
   pub mark-words : s ≡ filled tokenRoom (map wordOf marks)
 
-module _ {wordOf : Mark → ℕ} {Asked : Type 0} {ws log : List ℕ} {editRoom ruleRoom tokenRoom : ℕ} where
+module _ {wordOf : Mark → ℕ} {Asked : Asks} {ws log : List ℕ} {editRoom ruleRoom tokenRoom : ℕ} where
   -- The answer and the three buffers are one.
   pub marks-unique : {a b : Outcome (Counts × ℕ)} {x y u v s t : List ℕ} → Marks wordOf Asked ws log editRoom ruleRoom tokenRoom a x u s
       → Marks wordOf Asked ws log editRoom ruleRoom tokenRoom b y v t → (a ≡ b) × (x ≡ y) × (u ≡ v) × (s ≡ t)

@@ -30,7 +30,7 @@ use Rattle.grammar.specs.Derivation.{Rules, All}
 use Rattle.grammar.specs.Cost.{stringCost, SymbolCost, ListCost, Ends}
 use Rattle.grammar.specs.Grammar.{RuleOf, grammarOf}
 use Rattle.grammar.specs.Moves.{Move, logToken, repaired}
-use Rattle.grammar.specs.Run.{Parses, RunOf, Settled, runConditions}
+use Rattle.grammar.specs.Run.{Asks, Parses, RunOf, Settled, runConditions}
 use Rattle.grammar.specs.Marks.{Mark, tokenOf, keptMark, addedMarks, Marked, MarksOf}
 use Rattle.grammar.specs.Pace.{Kept}
 use Rattle.grammar.specs.Refusals.{Outcome, given}
@@ -195,7 +195,7 @@ pub marks-added : {ws : List ℕ} {ms : List Move} {xs : List Mark} → MarksOf 
 marks-added {ws} a t m = marked-added (RuleOf ws) (insertCost ws) (plain-words ws) a m
 
 -- The run of a parse that answers with moves.
-pub run-of : {Asked : Type 0} {ws log es rs : List ℕ} {editRoom ruleRoom : ℕ} {ms : List Move}
+pub run-of : {Asked : Asks} {ws log es rs : List ℕ} {editRoom ruleRoom : ℕ} {ms : List Move}
     → Parses Asked ws log editRoom ruleRoom (given ms) es rs → Admitted ws log × RunOf ws log editRoom ruleRoom ms none
 run-of {Asked} {ws} {log} {editRoom = editRoom} {ruleRoom = ruleRoom} {ms = ms} p = go (p .settled)
   where
@@ -204,7 +204,7 @@ run-of {Asked} {ws} {log} {editRoom = editRoom} {ruleRoom = ruleRoom} {ms = ms} 
     go (Settled.whole l r) = (admitted l, r)
 
 -- A kept mark is the token that the log has at its place.
-pub marks-kept : {Asked : Type 0} {ws log es rs : List ℕ} {editRoom ruleRoom : ℕ} {ms : List Move} {xs : List Mark}
+pub marks-kept : {Asked : Asks} {ws log es rs : List ℕ} {editRoom ruleRoom : ℕ} {ms : List Move} {xs : List Mark}
     → Parses Asked ws log editRoom ruleRoom (given ms) es rs → MarksOf ws ms xs → (p t : ℕ) → List·Memᴰ (Mark.kept p t) xs
     → (p < length log) × (getD log p 0 ≡ t)
 marks-kept {ws = ws} {log = log} q a p t m =

@@ -1,6 +1,8 @@
--- Two meanings of words that agree get the same answers. Request (vi) of 02 asks it of old words and of a restart mark of 0.
+-- Two meanings of words that agree get the same answers. Request (vi) of 02 asks it of old words and of a restart mark of 0; by request
+-- (viii) the unit alone changes no answer but the report's.
 --     SameConditions, Alike           what agrees
---     SameAnswers, alike-answers      so does every answer: the check, the desk, the parser, the marks and the report
+--     SameUntimed, alike-untimed      so do the check, the desk, the parser and the marks
+--     SameAnswers, alike-answers      and where the units agree, the report too
 use Prim.Native.Nat.{ℕ, _≤_}
 use mathlib.Core.Path.{_≡_, refl, sym, subst, subst₃}
 use mathlib.Core.List.{List, [], _∷_, _++_}
@@ -10,10 +12,10 @@ use Rattle.grammar.specs.Grammar.{Grammar, Meaning, conditionsOf, Verdic
 use Rattle.grammar.specs.Buffers.{filled}
 use Rattle.grammar.specs.Moves.{Move}
 use Rattle.grammar.specs.Refusals.{Condition, _unless_, FirstFailing, Lowest, Outcome, given}
-use Rattle.grammar.specs.Run.{LogBelow, conditionsBefore, Settled, RunBy, ParsesBy, ParsedBy, countsOf}
+use Rattle.grammar.specs.Run.{LogBelow, Asks, conditionsBefore, Settled, RunBy, ParsesBy, ParsedBy}
 use Rattle.grammar.specs.Desk.{CostsAndRules, conditionsAtDesk, DeskBy}
 use Rattle.grammar.specs.Marks.{Mark, MarksBy}
-use Rattle.grammar.specs.Pace.{CleanCycles, ReportsBy, ReportedBy, reportOf}
+use Rattle.grammar.specs.Pace.{CleanCycles, timed, ReportsBy, ReportedBy}
 use Rattle.grammar.specs.declared.Refusal.{Refusal}
 use Rattle.grammar.specs.declared.Refusal.the-variants.{BadLog, ShortDesk}
 use Rattle.grammar.specs.declared.Counts.{Counts}
@@ -38,7 +40,6 @@ pub record Alike (M K : Meaning) : Type 0 where
   pub opening : M .opening ≡ K .opening
   pub closing : M .closing ≡ K .closing
   pub restart : M .restart ≡ K .restart
-  pub unit : M .unit ≡ K .unit
 
 -- ---- It agrees the other way round
 
@@ -59,7 +60,6 @@ alike-sym {M} {K} s =
       opening = sym (s .opening);
       closing = sym (s .closing);
       restart = sym (s .restart);
-      unit = sym (s .unit);
     }
 
 -- ---- Conditions
@@ -76,14 +76,19 @@ same-failing (c ∷ cs) (d ∷ ds) o s (inr x) = inr (s .1 .0 (x .0), same-faili
 same-lowest : {cs ds : List Condition} {o : Option Refusal} → SameConditions cs ds → Lowest cs o → Lowest ds o
 same-lowest {cs} {ds} {o} s l = record { is = same-failing cs ds o s (l .is) }
 
--- One condition more.
-same-last : (cs ds : List Condition) (r : Refusal) {P Q : Type 0} → SameConditions cs ds → P ↔ Q
-    → SameConditions (cs ++ ((r unless P) ∷ [])) (ds ++ ((r unless Q) ∷ []))
+same-conditions-refl : (cs : List Condition) → SameConditions cs cs
 unfolding SameConditions
-same-last [] [] r s e = (refl, e, tt)
-same-last [] (d ∷ ds) r s e = absurd s
-same-last (c ∷ cs) [] r s e = absurd s
-same-last (c ∷ cs) (d ∷ ds) r s e = (s .0, s .1, same-last cs ds r (s .2) e)
+same-conditions-refl [] = tt
+same-conditions-refl (c ∷ cs) = (refl, (λ h. h, λ h. h), same-conditions-refl cs)
+
+-- One condition more, and others behind it.
+same-more : (cs ds : List Condition) (r : Refusal) {P Q : Type 0} (es : List Condition) → SameConditions cs ds → P ↔ Q
+    → SameConditions (cs ++ ((r unless P) ∷ es)) (ds ++ ((r unless Q) ∷ es))
+unfolding SameConditions
+same-more [] [] r es s e = (refl, e, same-conditions-refl es)
+same-more [] (d ∷ ds) r es s e = absurd s
+same-more (c ∷ cs) [] r es s e = absurd s
+same-more (c ∷ cs) (d ∷ ds) r es s e = (s .0, s .1, same-more cs ds r es (s .2) e)
 
 -- The five conditions are the same where the shape is.
 pub same-conditions : (Shape Shape′ : Type 0) (N : ℕ) (G H : Grammar) → Shape ↔ Shape′ → SameGrammar G H
@@ -113,7 +118,7 @@ module _ {M K : Meaning} (s : Alike M K) where
   -- The desk.
   desk-conditions : (costRoom ruleRoom : ℕ) → SameConditions (conditionsAtDesk M costRoom ruleRoom) (conditionsAtDesk K costRoom ruleRoom)
   desk-conditions costRoom ruleRoom =
-      same-last (M .conditions) (K .conditions) ShortDesk (s .conditions) (
+      same-more (M .conditions) (K .conditions) ShortDesk [] (s .conditions) (
         λ f. subst (λ N. (N ≤ costRoom) × (N ≤ ruleRoom)) (s .nonterminals) f,
         λ f. subst (λ N. (N ≤ costRoom) × (N ≤ ruleRoom)) (sym (s .nonterminals)) f,
       )
@@ -126,14 +131,14 @@ module _ {M K : Meaning} (s : Alike M K) where
   to-desk {costRoom} {ruleRoom} (DeskBy.refuse l) = DeskBy.refuse (same-lowest (desk-conditions costRoom ruleRoom) l)
 
   -- The parser.
-  run-conditions : (log : List ℕ) (Asked : Type 0) → SameConditions (conditionsBefore M log Asked) (conditionsBefore K log Asked)
+  run-conditions : (log : List ℕ) (Asked : Asks) → SameConditions (conditionsBefore M log Asked) (conditionsBefore K log Asked)
   run-conditions log Asked =
-      same-last (M .conditions) (K .conditions) BadLog (s .conditions) (
+      same-more (M .conditions) (K .conditions) BadLog (Asked .behind-10) (s .conditions) (
         λ f. (subst (λ T. LogBelow T log) (s .terminals) (f .0), f .1),
         λ f. (subst (λ T. LogBelow T log) (sym (s .terminals)) (f .0), f .1),
       )
 
-  to-settled : (Asked : Type 0) (log : List ℕ) {editRoom ruleRoom : ℕ} {o : Outcome (List Move)}
+  to-settled : (Asked : Asks) (log : List ℕ) {editRoom ruleRoom : ℕ} {o : Outcome (List Move)}
       → Settled (conditionsBefore M log Asked) (RunBy (M .grammar) log editRoom ruleRoom) o
       → Settled (conditionsBefore K log Asked) (RunBy (K .grammar) log editRoom ruleRoom) o
   to-settled Asked log (Settled.whole l r) =
@@ -142,17 +147,17 @@ module _ {M K : Meaning} (s : Alike M K) where
   to-settled Asked log (Settled.within l r) =
       Settled.within (same-lowest (run-conditions log Asked) l) (to-run-by (M .grammar) (K .grammar) (s .grammar) log r)
 
-  to-parses : {Asked : Type 0} {log : List ℕ} {editRoom ruleRoom : ℕ} {o : Outcome (List Move)} {es rs : List ℕ}
+  to-parses : {Asked : Asks} {log : List ℕ} {editRoom ruleRoom : ℕ} {o : Outcome (List Move)} {es rs : List ℕ}
       → ParsesBy Asked M log editRoom ruleRoom o es rs → ParsesBy Asked K log editRoom ruleRoom o es rs
   to-parses {Asked} {log} p =
       record { settled = to-settled Asked log (p .settled); leaves-edits = p .leaves-edits; leaves-rules = p .leaves-rules }
 
-  to-parsed : {Asked : Type 0} {log : List ℕ} {editRoom ruleRoom : ℕ} {a : Outcome Counts} {es rs : List ℕ}
+  to-parsed : {Asked : Asks} {log : List ℕ} {editRoom ruleRoom : ℕ} {a : Outcome Counts} {es rs : List ℕ}
       → ParsedBy Asked M log editRoom ruleRoom a es rs → ParsedBy Asked K log editRoom ruleRoom a es rs
   to-parsed p = record { outcome = p .outcome; parses = to-parses (p .parses); answers = p .answers }
 
   -- The repaired log in marks alone.
-  to-marks : {wordOf : Mark → ℕ} {Asked : Type 0} {log : List ℕ} {editRoom ruleRoom tokenRoom : ℕ} {a : Outcome (Counts × ℕ)}
+  to-marks : {wordOf : Mark → ℕ} {Asked : Asks} {log : List ℕ} {editRoom ruleRoom tokenRoom : ℕ} {a : Outcome (Counts × ℕ)}
       {es rs ts : List ℕ} → MarksBy wordOf Asked M log editRoom ruleRoom tokenRoom a es rs ts
       → MarksBy wordOf Asked K log editRoom ruleRoom tokenRoom a es rs ts
   to-marks (MarksBy.unparsed p) = MarksBy.unparsed (to-parses p)
@@ -161,36 +166,51 @@ module _ {M K : Meaning} (s : Alike M K) where
 
   -- The report.
   to-reports : {ticks : List ℕ} {o : Outcome (List Move)} {a : Outcome (Report × Counts)} → ReportsBy M ticks o a → ReportsBy K ticks o a
-  to-reports {ticks} (ReportsBy.paced {ms = ms} {cs = cs} c) =
-      subst (λ u. ReportsBy K ticks (given ms) (given (reportOf u ticks cs, countsOf ms))) (sym (s .unit))
-      (ReportsBy.paced
-      (subst₃ (λ o c m. CleanCycles o c m ms cs) (s .opening) (s .closing) (s .restart) c))
+  to-reports (ReportsBy.paced {ms = ms} {cs = cs} c) =
+      ReportsBy.paced (subst₃ (λ o c m. CleanCycles o c m ms cs) (s .opening) (s .closing) (s .restart) c)
   to-reports ReportsBy.unpaced = ReportsBy.unpaced
 
-  to-reported : {log ticks : List ℕ} {editRoom ruleRoom : ℕ} {a : Outcome (Report × Counts)} {es rs : List ℕ}
+  to-reported : M .unit ≡ K .unit → {log ticks : List ℕ} {editRoom ruleRoom : ℕ} {a : Outcome (Report × Counts)} {es rs : List ℕ}
       → ReportedBy M log ticks editRoom ruleRoom a es rs → ReportedBy K log ticks editRoom ruleRoom a es rs
-  to-reported p = record { outcome = p .outcome; parses = to-parses (p .parses); reports = to-reports (p .reports) }
+  to-reported unit {log} {ticks} {editRoom} {ruleRoom} {es = es} {rs = rs} p =
+      record {
+        outcome = p .outcome;
+        parses =
+            subst (λ u. ParsesBy (timed u log ticks) K log editRoom ruleRoom (p .outcome) es rs) unit (to-parses (p .parses));
+        reports = to-reports (p .reports);
+      }
 
--- Every answer to the one is an answer to the other, with the same words in every buffer: whatever log, ticks and lengths are lent.
-pub record SameAnswers (M K : Meaning) : Type 1 where
+-- Every answer to the one is an answer to the other, with the same words in every buffer, whatever log and lengths are lent: of those that
+-- time nothing,
+pub record SameUntimed (M K : Meaning) : Type 1 where
   pub verdict : (o : Option Refusal) → VerdictBy M o ↔ VerdictBy K o
   pub desk : (costRoom ruleRoom : ℕ) (a : Outcome ℕ) (costs rules : List ℕ)
       → DeskBy M costRoom ruleRoom a costs rules ↔ DeskBy K costRoom ruleRoom a costs rules
-  pub parsed : (Asked : Type 0) (log : List ℕ) (editRoom ruleRoom : ℕ) (a : Outcome Counts) (es rs : List ℕ)
+  pub parsed : (Asked : Asks) (log : List ℕ) (editRoom ruleRoom : ℕ) (a : Outcome Counts) (es rs : List ℕ)
       → ParsedBy Asked M log editRoom ruleRoom a es rs ↔ ParsedBy Asked K log editRoom ruleRoom a es rs
-  pub marks : (wordOf : Mark → ℕ) (Asked : Type 0) (log : List ℕ) (editRoom ruleRoom tokenRoom : ℕ) (a : Outcome (Counts × ℕ))
+  pub marks : (wordOf : Mark → ℕ) (Asked : Asks) (log : List ℕ) (editRoom ruleRoom tokenRoom : ℕ) (a : Outcome (Counts × ℕ))
       (es rs ts : List ℕ) → MarksBy wordOf Asked M log editRoom ruleRoom tokenRoom a es rs ts
       ↔ MarksBy wordOf Asked K log editRoom ruleRoom tokenRoom a es rs ts
+
+-- and of the report, whatever the ticks.
+pub record SameAnswers (M K : Meaning) : Type 1 where
+  pub untimed : SameUntimed M K
   pub reported : (log ticks : List ℕ) (editRoom ruleRoom : ℕ) (a : Outcome (Report × Counts)) (es rs : List ℕ)
       → ReportedBy M log ticks editRoom ruleRoom a es rs ↔ ReportedBy K log ticks editRoom ruleRoom a es rs
 
-pub alike-answers : {M K : Meaning} → Alike M K → SameAnswers M K
-alike-answers s =
+pub alike-untimed : {M K : Meaning} → Alike M K → SameUntimed M K
+alike-untimed s =
     let z = alike-sym s in
     record {
       verdict = λ o. (to-verdict s, to-verdict z);
       desk = λ c r a x u. (to-desk s, to-desk z);
       parsed = λ A log e r a x u. (to-parsed s, to-parsed z);
       marks = λ w A log e r t a x u v. (to-marks s, to-marks z);
-      reported = λ log ticks e r a x u. (to-reported s, to-reported z);
+    }
+
+pub alike-answers : {M K : Meaning} → Alike M K → M .unit ≡ K .unit → SameAnswers M K
+alike-answers s unit =
+    record {
+      untimed = alike-untimed s;
+      reported = λ log ticks e r a x u. (to-reported s unit, to-reported (alike-sym s) (sym unit));
     }

@@ -20,6 +20,7 @@ use Rattle.grammar.specs.declared.Refusal.the-variants.{
   BadCount,
   ShortBytes,
   ShortTokens,
+  Hundredths,
   ShortDesk,
 }
 
@@ -49,4 +50,5 @@ number-small NoRoom = omega arith
 number-small BadCount = omega arith
 number-small ShortBytes = omega arith
 number-small ShortTokens = omega arith
+number-small Hundredths = omega arith
 number-small ShortDesk = omega arith

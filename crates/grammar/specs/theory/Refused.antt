@@ -2,25 +2,24 @@
 -- the reader and the writer, which fill one buffer, Fills.antt has it.
 use Prim.Native.Nat.{ℕ, _<_}
 use mathlib.Core.Path.{_≡_, refl, sym, ap, subst, _∙_}
-use mathlib.Core.List.{List}
+use mathlib.Core.List.{List, [], _∷_}
 use mathlib.Core.Logic.{_↔_, inl, inr}
 use mathlib.Core.Option.{Option, some}
 use native.Mathlib.Omega.{arith}
 use Rattle.grammar.specs.Buffers.{filled, cleared}
 use Rattle.grammar.specs.Moves.{Move, edits, editWords, ruleNumbers}
-use Rattle.grammar.specs.Refusals.{Condition, Lowest, numberOf, Outcome, given, refused}
+use Rattle.grammar.specs.Refusals.{Condition, _unless_, Lowest, numberOf, Outcome, given, refused}
 use Rattle.grammar.specs.File.{fileConditions}
-use Rattle.grammar.specs.Writing.{writeConditions}
 use Rattle.grammar.specs.Grammar.{grammarConditions}
-use Rattle.grammar.specs.Run.{runConditions, Settled, RunOf, Parses, answered, countsOf, left}
-use Rattle.grammar.specs.Pace.{Reports, ReportsBy}
+use Rattle.grammar.specs.Run.{Asks, noMore, runConditions, Settled, RunOf, Parses, answered, countsOf, left}
+use Rattle.grammar.specs.Pace.{timed, Reports, ReportsBy}
 use Rattle.grammar.specs.declared.Refusal.{Refusal}
-use Rattle.grammar.specs.declared.Refusal.the-variants.{NoRoom}
+use Rattle.grammar.specs.declared.Refusal.the-variants.{NoRoom, Hundredths}
 use Rattle.grammar.specs.declared.Counts.{Counts}
 use Rattle.grammar.specs.declared.Report.{Report}
 use Rattle.grammar.specs.theory.Answers.{admitted, runs-determined, settled-unique}
 use Rattle.grammar.specs.theory.Conditions.{Held, lowest-unique}
-use Rattle.grammar.specs.theory.Due.{Above, Due, Fails, InOrder, lowest-due, lowest-held}
+use Rattle.grammar.specs.theory.Due.{Above, Due, InOrder, lowest-due, lowest-held}
 use Rattle.grammar.specs.theory.Outcomes.{given-refused, given-same, refused-same}
 
 -- ---- The conditions stand in the order of their numbers
@@ -29,68 +28,77 @@ pub file-in-order : (bytes : List ℕ) (room : ℕ) → InOrder (fileConditions 
 unfolding Above
 file-in-order bytes room = (omega arith, (omega arith, (omega arith, (omega arith, tt))))
 
-pub write-in-order : (ws : List ℕ) (room : ℕ) → InOrder (writeConditions ws room)
-unfolding Above
-write-in-order ws room = (omega arith, (omega arith, tt))
-
 pub grammar-in-order : (ws : List ℕ) → InOrder (grammarConditions ws)
 unfolding Above
 grammar-in-order ws = (omega arith, (omega arith, (omega arith, (omega arith, (omega arith, tt)))))
 
-pub run-in-order : (ws log : List ℕ) (Asked : Type 0) → InOrder (runConditions ws log Asked)
+-- (5 to 10 of every caller; what is asked behind 10 goes on from there.)
+run-in-order : (ws log : List ℕ) (Asked : Asks) → Above 10 (Asked .behind-10) → InOrder (runConditions ws log Asked)
 unfolding Above
-run-in-order ws log Asked = (omega arith, (omega arith, (omega arith, (omega arith, (omega arith, (omega arith, tt))))))
+run-in-order ws log Asked behind =
+    (omega arith, (omega arith, (omega arith, (omega arith, (omega arith, (omega arith, behind))))))
+
+pub parser-in-order : (ws log : List ℕ) → InOrder (runConditions ws log noMore)
+unfolding Above
+parser-in-order ws log = run-in-order ws log noMore tt
+
+pub report-in-order : (unit : ℕ) (ws log ticks : List ℕ) → InOrder (runConditions ws log (timed unit log ticks))
+unfolding Above
+report-in-order unit ws log ticks = run-in-order ws log (timed unit log ticks) (omega arith, tt)
 
 -- ---- The check
 
-pub lowest-exactly : {cs : List Condition} {o : Option Refusal} → InOrder cs → Lowest cs o → (r : Refusal) → (o ≡ some r) ↔ Due cs r
-lowest-exactly {cs} order l r = (
-  λ e. lowest-due cs order r .0 (subst (λ q. Lowest cs q) e l),
-  λ d. lowest-unique l (lowest-due cs order r .1 d),
+pub lowest-exactly : {cs : List Condition} {o : Option Refusal} → Lowest cs o → (r : Refusal) → (o ≡ some r) ↔ Due cs r
+lowest-exactly {cs} l r = (
+  λ e. lowest-due cs r .0 (subst (λ q. Lowest cs q) e l),
+  λ d. lowest-unique l (lowest-due cs r .1 d),
 )
 
 -- ---- The run of a log, which the parser and the report share
 
 -- Refusal r is given: it is due before the run; or all conditions hold, and the run makes the moves ms and meets it.
-pub data Given (Asked : Type 0) (ws log : List ℕ) (editRoom ruleRoom : ℕ) (r : Refusal) : Type 0 where
+pub data Given (Asked : Asks) (ws log : List ℕ) (editRoom ruleRoom : ℕ) (r : Refusal) : Type 0 where
   before : Due (runConditions ws log Asked) r → Given Asked ws log editRoom ruleRoom r
   within : {ms : List Move} → Held (runConditions ws log Asked) → RunOf ws log editRoom ruleRoom ms (some r)
       → Given Asked ws log editRoom ruleRoom r
 
-due-run : {Asked : Type 0} {ws log : List ℕ} (r : Refusal)
-    → Lowest (runConditions ws log Asked) (some r) ↔ Due (runConditions ws log Asked) r
-due-run {Asked} {ws} {log} r = lowest-due (runConditions ws log Asked) (run-in-order ws log Asked) r
-
--- No condition before a run has refusal 12.
-other : {r q : Refusal} → numberOf r < numberOf q → r ≡ q → ⊥
+-- A refusal of a lower number is another one.
+pub other : {r q : Refusal} → numberOf r < numberOf q → r ≡ q → ⊥
 other l e = omega (arith, ap numberOf e)
 
-pub due-not-room : (ws log : List ℕ) (Asked : Type 0) → Due (runConditions ws log Asked) NoRoom → ⊥
-unfolding Fails
-due-not-room ws log Asked d = go (d .fails)
-  where
-    go : Fails (runConditions ws log Asked) NoRoom → ⊥
-    go (inl f) = other (omega arith) (f .0)
-    go (inr (inl f)) = other (omega arith) (f .0)
-    go (inr (inr (inl f))) = other (omega arith) (f .0)
-    go (inr (inr (inr (inl f)))) = other (omega arith) (f .0)
-    go (inr (inr (inr (inr (inl f))))) = other (omega arith) (f .0)
-    go (inr (inr (inr (inr (inr (inl f)))))) = other (omega arith) (f .0)
-    go (inr (inr (inr (inr (inr (inr f)))))) = absurd f
+-- No condition before a run has refusal 12.
+pub no-room-behind : Due [] NoRoom → ⊥
+unfolding Due
+no-room-behind d = d
 
-module _ {Asked : Type 0} {ws log : List ℕ} {editRoom ruleRoom : ℕ} where
+pub no-room-timed : (unit : ℕ) → Due ((Hundredths unless (unit ≡ 1 → ⊥)) ∷ []) NoRoom → ⊥
+unfolding Due
+no-room-timed unit (inl f) = other (omega arith) (sym (f .0))
+no-room-timed unit (inr f) = f .1
+
+pub due-not-room : (ws log : List ℕ) (Asked : Asks) → (Due (Asked .behind-10) NoRoom → ⊥) → Due (runConditions ws log Asked) NoRoom → ⊥
+unfolding Due
+due-not-room ws log Asked behind (inl f) = other (omega arith) (f .0)
+due-not-room ws log Asked behind (inr (h, inl f)) = other (omega arith) (f .0)
+due-not-room ws log Asked behind (inr (h, inr (i, inl f))) = other (omega arith) (f .0)
+due-not-room ws log Asked behind (inr (h, inr (i, inr (j, inl f)))) = other (omega arith) (f .0)
+due-not-room ws log Asked behind (inr (h, inr (i, inr (j, inr (k, inl f))))) = other (omega arith) (f .0)
+due-not-room ws log Asked behind (inr (h, inr (i, inr (j, inr (k, inr (l, inl f)))))) = other (omega arith) (f .0)
+due-not-room ws log Asked behind (inr (h, inr (i, inr (j, inr (k, inr (l, inr (m, d))))))) = behind d
+
+module _ {Asked : Asks} {ws log : List ℕ} {editRoom ruleRoom : ℕ} where
   settled-given : {o : Outcome (List Move)} {r : Refusal} → Settled (runConditions ws log Asked) (RunOf ws log editRoom ruleRoom) o
       → o ≡ refused r → Given Asked ws log editRoom ruleRoom r
   settled-given (Settled.whole l k) e = absurd (given-refused refl e)
   settled-given (Settled.before {r = q} l) e =
-      subst (λ r. Given Asked ws log editRoom ruleRoom r) (refused-same e) (Given.before (due-run q .0 l))
+      subst (λ r. Given Asked ws log editRoom ruleRoom r) (refused-same e) (Given.before (lowest-due (runConditions ws log Asked) q .0 l))
   settled-given (Settled.within l k) e =
       subst (λ r. Given Asked ws log editRoom ruleRoom r) (refused-same e)
       (Given.within (lowest-held (runConditions ws log Asked) .0 l) k)
 
   pub given-settled : {r : Refusal} → Given Asked ws log editRoom ruleRoom r
       → Settled (runConditions ws log Asked) (RunOf ws log editRoom ruleRoom) (refused r)
-  given-settled {r} (Given.before d) = Settled.before (due-run r .1 d)
+  given-settled {r} (Given.before d) = Settled.before (lowest-due (runConditions ws log Asked) r .1 d)
   given-settled (Given.within h k) = Settled.within (lowest-held (runConditions ws log Asked) .1 h) k
 
   module _ {o : Outcome (List Move)} {x y : List ℕ} (p : Parses Asked ws log editRoom ruleRoom o x y) where

@@ -1,26 +1,28 @@
 -- The theorems that document 02 asks to be shown, request by request, in its words. Each is proved here by citing.
-use Prim.Native.Nat.{ℕ, _+_, _≤_, _<_}
+use Prim.Native.Nat.{ℕ, _+_, _*_, _≤_, _<_}
 use mathlib.Core.Path.{_≡_, refl, sym, ap, ap₂, subst, _∙_}
 use mathlib.Core.List.{List, [], _∷_, map, List·Memᴰ}
 use mathlib.Core.Logic.{_↔_}
 use mathlib.Core.Option.{none, some}
 use native.Mathlib.Omega.{arith}
 use lib.ListN.{length, take}
-use Rattle.grammar.specs.Words.{START, word, RuleSymbol, nonterminalCount, insertCost, opening, closing, restartMark}
+use Rattle.grammar.specs.Words.{START, word, RuleSymbol, nonterminalCount, insertCost}
+use Rattle.grammar.specs.Words.{opening, closing, tickUnit, UnitOne, restartMark}
 use Rattle.grammar.specs.Derivation.{CanBeEmpty, Yields}
 use Rattle.grammar.specs.Cost.{stringCost, ListCost, CheapestRule, Ends}
 use Rattle.grammar.specs.Grammar.{RuleOf, Verdict, VerdictBy, grammarOf, meaningOf}
 use Rattle.grammar.specs.Moves.{Move, edits}
-use Rattle.grammar.specs.Run.{Pop, Choice, correcting, State, started, made, LogFits, RunOf}
-use Rattle.grammar.specs.Pace.{Kept, Edited, Span, Cycle, Clean}
+use Rattle.grammar.specs.Run.{Pop, Choice, correcting, State, started, made, LogFits, noMore, RunOf}
+use Rattle.grammar.specs.Pace.{Kept, Edited, Span, Cycle, Clean, Reported}
 use Rattle.grammar.specs.Buffers.{filled, cleared, Fills}
 use Rattle.grammar.specs.File.{FileRead}
 use Rattle.grammar.specs.Writing.{blocksOf, WordCount, writeConditions, FileWritten}
 use Rattle.grammar.specs.Desk.{deskConditions, DeskAnswer}
 use Rattle.grammar.specs.Marks.{Mark, tokenOf, MarksOf, MarksAnswer}
-use Rattle.grammar.specs.Refusals.{Outcome, given}
+use Rattle.grammar.specs.Refusals.{Outcome, given, refused}
 use Rattle.grammar.specs.declared.Counts.{Counts}
-use Rattle.grammar.specs.declared.Refusal.the-variants.{BadShape}
+use Rattle.grammar.specs.declared.Report.{Report}
+use Rattle.grammar.specs.declared.Refusal.the-variants.{BadShape, Hundredths}
 use Rattle.grammar.specs.theory.Answers.{log-tokens}
 use Rattle.grammar.specs.theory.Behind as Behind
 use Rattle.grammar.specs.theory.Behind.{sevenWords, sixForm}
@@ -34,6 +36,7 @@ use Rattle.grammar.specs.theory.Desk.{DeskGives}
 use Rattle.grammar.specs.theory.Due.{Due, InOrder}
 use Rattle.grammar.specs.theory.Earlier as Earlier
 use Rattle.grammar.specs.theory.Earlier.{EarlierRun, AsEarlier}
+use Rattle.grammar.specs.theory.FewCycles.{told-4095, told-most}
 use Rattle.grammar.specs.theory.Filled.{Filled}
 use Rattle.grammar.specs.theory.Fills.{fills-unique, fills-exactly, fills-zeros, fills-content, front-of}
 use Rattle.grammar.specs.theory.Good.{accepted, good-words}
@@ -41,13 +44,14 @@ use Rattle.grammar.specs.theory.MarkAnswers as MarkAnswers
 use Rattle.grammar.specs.theory.MarkAnswers.{MarksRefuse, MarksGive}
 use Rattle.grammar.specs.theory.Marking as Marking
 use Rattle.grammar.specs.theory.Marking.{insertedSymbols, addedTokens}
-use Rattle.grammar.specs.theory.Meanings.{SameAnswers, alike-answers}
+use Rattle.grammar.specs.theory.Meanings.{SameUntimed, SameAnswers, alike-untimed, alike-answers}
 use Rattle.grammar.specs.theory.OnlyFile as OnlyFile
 use Rattle.grammar.specs.theory.OnlyFile.{Below}
 use Rattle.grammar.specs.theory.ReadBack.{file-right, file-holds, is-blocks}
-use Rattle.grammar.specs.theory.Refused.{write-in-order}
 use Rattle.grammar.specs.theory.SameCycles as SameCycles
 use Rattle.grammar.specs.theory.SixWords as SixWords
+use Rattle.grammar.specs.theory.Told.{told}
+use Rattle.grammar.specs.theory.Unpaced as Unpaced
 use Rattle.grammar.specs.theory.SixWords.{sixWords}
 
 -- ======== (i) Write grammar files too
@@ -91,17 +95,13 @@ pub only-file : {a b x y : List ℕ} {room room′ n m : ℕ} → Below 256 a �
     → FileRead b room′ (given m) y → take n x ≡ take m y → a ≡ b
 only-file small-a small-b p q same = accepted-file small-a p ∙ (ap blocksOf same ∙ sym (accepted-file small-b q))
 
--- The writer's conditions stand in the order of their numbers.
-pub writer-in-order : (ws : List ℕ) (room : ℕ) → InOrder (writeConditions ws room)
-writer-in-order ws room = write-in-order ws room
-
 -- Demand 1 of the writer: the file of the words, zeros behind it, or a refusal that is due, and zeros.
 pub writer-answers : {ws x : List ℕ} {room : ℕ} {a : Outcome ℕ} → FileWritten ws room a x
     → Answered a (Due (writeConditions ws room)) (x ≡ cleared room)
     (λ n. (n ≡ length (blocksOf ws)) × (x ≡ filled room (blocksOf ws)))
-writer-answers {ws} {room = room} p =
+writer-answers p =
     record {
-      exactly = fills-exactly (write-in-order ws room) (p .write);
+      exactly = fills-exactly (p .write);
       zeros = λ r e. fills-zeros (p .write) e;
       holds = λ n e. let content = fills-content (p .write) e in (content .count, content .holds);
     }
@@ -215,7 +215,7 @@ module _ (ws log : List ℕ) (accepts : Verdict ws none) (fits : LogFits ws log)
 -- moves, and their marks, zeros behind.
 pub marks-answers : {ws log x u s : List ℕ} {editRoom ruleRoom tokenRoom : ℕ} {a : Outcome (Counts × ℕ)}
     → MarksAnswer ws log editRoom ruleRoom tokenRoom a x u s
-    → Answered a (MarksRefuse (Unit {0}) ws log editRoom ruleRoom tokenRoom)
+    → Answered a (MarksRefuse noMore ws log editRoom ruleRoom tokenRoom)
     ((x ≡ cleared editRoom) × (u ≡ cleared ruleRoom) × (s ≡ cleared tokenRoom))
     (λ given. MarksGive tokenOf ws log editRoom ruleRoom tokenRoom x u s (given .0) (given .1))
 marks-answers p =
@@ -236,12 +236,13 @@ marks-unique p q = MarkAnswers.marks-unique p q
 -- "Old words mean what they meant": to words whose word 0 is at most 64 every answer is the one of 01's six-word header, in which no word
 -- is a restart mark.
 pub old-words : (ws : List ℕ) → word ws 0 ≤ 64 → SameAnswers (meaningOf ws) (sixWords ws)
-old-words ws old = alike-answers (SixWords.short-alike ws (omega arith))
+old-words ws old = alike-answers (SixWords.short-alike ws (omega arith)) (SixWords.same-unit ws)
 
 -- A seven-word grammar whose restart mark is 0 means the same as its six-word form: every answer to the one is the answer to the other.
 pub same-as-six-words : (T N P o c u : ℕ) (rest : List ℕ) → 1 ≤ T → T ≤ 64
     → SameAnswers (meaningOf (sevenWords T N P o c u rest)) (meaningOf (sixForm T N P o c u rest))
-same-as-six-words T N P o c u rest low high = alike-answers (Behind.form-alike T N P o c u rest low high)
+same-as-six-words T N P o c u rest low high =
+    alike-answers (Behind.form-alike T N P o c u rest low high) (Behind.form-unit T N P o c u rest)
 
 -- "Such grammars have T + 256 in word 0, and a grammar check made for 01 refuses them with 5."
 pub earlier-check-refuses : (ws : List ℕ) → 256 < word ws 0 → VerdictBy (sixWords ws) (some BadShape)
@@ -262,3 +263,35 @@ restart-makes-unclean mark = (
   λ y. (record { cycle = y .cycle; unedited = y .unedited; no-restart = λ other. absurd (omega arith) }, y .no-restart mark),
   λ y. record { cycle = y .0 .cycle; unedited = y .0 .unedited; no-restart = λ _. y .1 },
 )
+
+-- ======== (viii) The hundredths unit goes
+
+-- The report is refused with 16 exactly where none of 5 to 10 applies and the unit is 1: "after 10 and before 11", so whatever the run
+-- would have come to, and whatever the buffers.
+pub report-16-exactly : {ws log ticks x y : List ℕ} {editRoom ruleRoom : ℕ} {a : Outcome (Report × Counts)}
+    → Reported ws log ticks editRoom ruleRoom a x y
+    → (a ≡ refused Hundredths) ↔ (Verdict ws none × LogFits ws log × (length ticks ≡ length log) × (tickUnit ws ≡ 1))
+report-16-exactly p = Unpaced.report-16-exactly p
+
+-- "No pace comes from them": "a refused pace is a refusal and never an idle station".
+pub no-pace-of-unit-1 : {ws log ticks x y : List ℕ} {editRoom ruleRoom : ℕ} {report : Report} {counts : Counts} → tickUnit ws ≡ 1
+    → Reported ws log ticks editRoom ruleRoom (given (report, counts)) x y → ⊥
+no-pace-of-unit-1 unit p = Unpaced.unit-not-1 p unit
+
+-- "Old files with unit 1 can still be read, checked and parsed": what the check, the desk, the parser and the marks answer to words of
+-- unit 1 they answer to the same words with unit 0, whatever header they have; the reader does not look at the unit.
+pub unit-1-as-before : (w N P o c : ℕ) (rest : List ℕ)
+    → SameUntimed (meaningOf (w ∷ N ∷ P ∷ o ∷ c ∷ 1 ∷ rest)) (meaningOf (w ∷ N ∷ P ∷ o ∷ c ∷ 0 ∷ rest))
+unit-1-as-before w N P o c rest = alike-untimed (Behind.units-alike w N P o c 1 0 rest (λ h. omega arith, λ h. omega arith))
+
+-- The writer refuses with 16 exactly where 13 does not apply and there are "six words or more with word 5 equal to 1".
+pub writer-16-exactly : {ws x : List ℕ} {room : ℕ} {a : Outcome ℕ} → FileWritten ws room a x
+    → (a ≡ refused Hundredths) ↔ (WordCount (length ws) × UnitOne ws)
+writer-16-exactly p = Unpaced.writer-16-exactly p
+
+-- What request (ix) asks of a pair "every pace report now meets": "a pair's count is at most 4,095 and its sum at most 4,294,967,295 times
+-- its count".
+pub report-limits : {ws log ticks x y : List ℕ} {editRoom ruleRoom : ℕ} {report : Report} {counts : Counts}
+    → Reported ws log ticks editRoom ruleRoom (given (report, counts)) x y
+    → (report .count ≤ 4095) × (report .sum ≤ 4294967295 * report .count)
+report-limits p = (told-4095 (told p), told-most (told p))

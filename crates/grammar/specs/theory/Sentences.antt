@@ -7,13 +7,13 @@ use mathlib.Core.Path.{_≡_, refl, subst}
 use mathlib.Core.List.{List, [], _∷_, _++_, append-nil, cons≢nil}
 use mathlib.Core.Option.{Option, none}
 use lib.ListN.{length, getD, take}
-use Rattle.grammar.specs.Words.{END, nonterminalCount, reliability}
+use Rattle.grammar.specs.Words.{END, nonterminalCount, tickUnit, reliability}
 use Rattle.grammar.specs.Derivation.{Rules, Step, Derives, First, Follow, CanBeEmpty}
 use Rattle.grammar.specs.Cost.{ListCost}
 use Rattle.grammar.specs.Grammar.{RuleOf, Reliable, Verdict, grammarOf, startOverEnd}
 use Rattle.grammar.specs.Moves.{Move}
 use Rattle.grammar.specs.Run.{Hit, Pop, Choice, expanding, dropping, correcting, State, Limits, started, LogFits, runConditions}
-use Rattle.grammar.specs.Run.{RunOf, Parses, Parsed}
+use Rattle.grammar.specs.Run.{Asks, RunOf, Parses, Parsed}
 use Rattle.grammar.specs.Refusals.{Outcome, refused}
 use Rattle.grammar.specs.File.{FileRead}
 use Rattle.grammar.specs.Pace.{Reported}
@@ -31,7 +31,7 @@ use Rattle.grammar.specs.theory.Chosen as Chosen
 use Rattle.grammar.specs.theory.Token as Token
 use Rattle.grammar.specs.theory.Answers as Answers
 use Rattle.grammar.specs.theory.Conditions.{lowest-unique}
-use Rattle.grammar.specs.theory.Due.{lowest-held}
+use Rattle.grammar.specs.theory.Due.{Due, lowest-held}
 use Rattle.grammar.specs.theory.Fills.{fills-unique}
 use Rattle.grammar.specs.theory.Refused as Refused
 use Rattle.grammar.specs.theory.Room as Room
@@ -103,19 +103,33 @@ module _ (ws log : List ℕ) (passes : Verdict ws none) (fits : LogFits ws log) 
       (Answers.log-tokens (record { words = accepted passes; fits = fits })) path more
 
 -- How long buffers need to be, whatever the grammar, so that "the next rule number or edit record" always fits: for a log of n tokens,
--- 3 x (2 + n + 512 x n) words for edits and 64 x n for rules. Parser and report then never give 12.
-pub room-enough : {Asked : Type 0} {ws log : List ℕ} {editRoom ruleRoom : ℕ} {o : Outcome (List Move)} {x y : List ℕ}
-    → Parses Asked ws log editRoom ruleRoom o x y → 6 + 1539 * length log ≤ editRoom → 64 * length log ≤ ruleRoom → o ≡ refused NoRoom → ⊥
-room-enough {Asked} {ws} {log} {editRoom} {ruleRoom} p edits-fit rules-fit e = go (Refused.parses-exactly p NoRoom .0 e)
+-- 3 x (2 + n + 512 x n) words for edits and 64 x n for rules.
+room-enough : {Asked : Asks} {ws log : List ℕ} {editRoom ruleRoom : ℕ} {o : Outcome (List Move)} {x y : List ℕ}
+    → (Due (Asked .behind-10) NoRoom → ⊥) → Parses Asked ws log editRoom ruleRoom o x y → 6 + 1539 * length log ≤ editRoom
+    → 64 * length log ≤ ruleRoom
+    → o ≡ refused NoRoom → ⊥
+room-enough {Asked} {ws} {log} {editRoom} {ruleRoom} behind p edits-fit rules-fit e = go (Refused.parses-exactly p NoRoom .0 e)
   where
     go : Refused.Given Asked ws log editRoom ruleRoom NoRoom → ⊥
-    go (Refused.Given.before d) = Refused.due-not-room ws log Asked d
+    go (Refused.Given.before d) = Refused.due-not-room ws log Asked behind d
     go (Refused.Given.within h run) =
         let a = Answers.admitted (lowest-held (runConditions ws log Asked) .1 h) in
         let most : nonterminalCount ws ≤ 64 = a .words .shaped .nonterminals-high in
         let times : nonterminalCount ws * length log ≤ 64 * length log = mul-le-mul-right (length log) most in
         Room.room-enough (grammarOf ws) (nonterminalCount ws) 8 (good-words ws (a .words)) (Answers.log-tokens a)
         (omega arith) (omega arith) run
+
+-- Parser and report then never give 12.
+pub parser-room-enough : {ws log : List ℕ} {editRoom ruleRoom : ℕ} {a : Outcome Counts} {x y : List ℕ}
+    → Parsed ws log editRoom ruleRoom a x y → 6 + 1539 * length log ≤ editRoom → 64 * length log ≤ ruleRoom → a ≡ refused NoRoom → ⊥
+parser-room-enough p edits-fit rules-fit e =
+    room-enough Refused.no-room-behind (p .parses) edits-fit rules-fit (Refused.answered-refused NoRoom (p .answers) .0 e)
+
+pub report-room-enough : {ws log ticks : List ℕ} {editRoom ruleRoom : ℕ} {a : Outcome (Report × Counts)} {x y : List ℕ}
+    → Reported ws log ticks editRoom ruleRoom a x y → 6 + 1539 * length log ≤ editRoom → 64 * length log ≤ ruleRoom
+    → a ≡ refused NoRoom → ⊥
+report-room-enough {ws} p edits-fit rules-fit e =
+    room-enough (Refused.no-room-timed (tickUnit ws)) (p .parses) edits-fit rules-fit (Refused.reports-refused NoRoom (p .reports) .0 e)
 
 -- ======== "Two answers allowed by it are shown equal": the verdict, the reader's answer, the parser's and the report's, with every word
 -- of their buffers, for all inputs and all refusals

@@ -75,6 +75,10 @@ sixWords ws = record {
   unit = word ws 5;
 }
 
+pub same-unit : (ws : List ℕ) → meaningOf ws .unit ≡ sixWords ws .unit
+unfolding tickUnit
+same-unit ws = refl
+
 -- ---- Old words mean that
 
 module _ (ws : List ℕ) (short : word ws 0 ≤ 256) where
@@ -206,7 +210,7 @@ module _ (ws : List ℕ) (short : word ws 0 ≤ 256) where
       }
 
   pub short-alike : Alike (meaningOf ws) (sixWords ws)
-  unfolding nonterminalCount opening closing tickUnit
+  unfolding nonterminalCount opening closing
   short-alike =
       record {
         conditions =
@@ -217,5 +221,4 @@ module _ (ws : List ℕ) (short : word ws 0 ≤ 256) where
         opening = refl;
         closing = refl;
         restart = short-restart ws short;
-        unit = refl;
       }

@@ -9,7 +9,7 @@ use Rattle.grammar.specs.Words.{opening, closing, restartMark, tickUnit}
 use Rattle.grammar.specs.Moves.{Move}
 use Rattle.grammar.specs.Refusals.{Outcome, given}
 use Rattle.grammar.specs.Run.{RunOf, Settled, runConditions}
-use Rattle.grammar.specs.Pace.{Span, Clean, CleanCycles, totalMs, paceOf, reportOf, Reports, Reported, ReportsBy}
+use Rattle.grammar.specs.Pace.{Span, Clean, CleanCycles, totalMs, paceOf, reportOf, timed, Reports, Reported, ReportsBy}
 use Rattle.grammar.specs.declared.Pace.the-variants.{Idle}
 use Rattle.grammar.specs.declared.Report.{Report}
 use Rattle.grammar.specs.declared.Counts.{Counts}
@@ -23,10 +23,10 @@ pub record Told (ws log ticks : List ℕ) (editRoom ruleRoom : ℕ) (report : Re
   pub run : RunOf ws log editRoom ruleRoom moves none
   pub cycles : List Span
   pub clean : CleanCycles (opening ws) (closing ws) (restartMark ws) moves cycles
-  pub made : report ≡ reportOf (tickUnit ws) ticks cycles
+  pub made : report ≡ reportOf ticks cycles
 
 told-by : {ws log ticks : List ℕ} {editRoom ruleRoom : ℕ} {o : Outcome (List Move)} {a : Outcome (Report × Counts)} {report : Report}
-    {counts : Counts} → Settled (runConditions ws log (length ticks ≡ length log)) (RunOf ws log editRoom ruleRoom) o
+    {counts : Counts} → Settled (runConditions ws log (timed (tickUnit ws) log ticks)) (RunOf ws log editRoom ruleRoom) o
     → Reports ws ticks o a → a ≡ given (report, counts) → Told ws log ticks editRoom ruleRoom report
 told-by (Settled.whole {ms = ms} l r) (ReportsBy.paced {cs = cs} c) e =
     record {
@@ -65,33 +65,33 @@ unfolding paceOf
 count-idle zero sum e = refl
 count-idle (suc n) sum e = absurd (omega arith)
 
-no-time : (unit : ℕ) (ticks : List ℕ) (cs : List Span) → length cs ≡ 0 → totalMs unit ticks cs ≡ 0
+no-time : (ticks : List ℕ) (cs : List Span) → length cs ≡ 0 → totalMs ticks cs ≡ 0
 unfolding totalMs
-no-time unit ticks [] e = refl
-no-time unit ticks (s ∷ cs) e = absurd (omega arith)
+no-time ticks [] e = refl
+no-time ticks (s ∷ cs) e = absurd (omega arith)
 
 module _ {ws log ticks : List ℕ} {editRoom ruleRoom : ℕ} {report : Report} (t : Told ws log ticks editRoom ruleRoom report) where
   pub told-count : report .count ≡ length (t .cycles)
   unfolding reportOf
   told-count = ap (λ (r : Report). r .count) (t .made)
 
-  pub told-sum : report .sum ≡ totalMs (tickUnit ws) ticks (t .cycles)
+  pub told-sum : report .sum ≡ totalMs ticks (t .cycles)
   unfolding reportOf
   told-sum = ap (λ (r : Report). r .sum) (t .made)
 
-  told-pace : report .pace ≡ paceOf (length (t .cycles)) (totalMs (tickUnit ws) ticks (t .cycles))
+  told-pace : report .pace ≡ paceOf (length (t .cycles)) (totalMs ticks (t .cycles))
   unfolding reportOf
   told-pace = ap (λ (r : Report). r .pace) (t .made)
 
   told-idle : report .pace ≡ Idle → (s : Span) → Clean (opening ws) (closing ws) (restartMark ws) (t .moves) s → ⊥
   told-idle e s y =
-      empty-none (t .cycles) (idle-count (length (t .cycles)) (totalMs (tickUnit ws) ticks (t .cycles)) (sym told-pace ∙ e)) s
+      empty-none (t .cycles) (idle-count (length (t .cycles)) (totalMs ticks (t .cycles)) (sym told-pace ∙ e)) s
       (t .clean .every s y)
 
   idle-told : ((s : Span) → Clean (opening ws) (closing ws) (restartMark ws) (t .moves) s → ⊥) → report .pace ≡ Idle
   idle-told n =
       told-pace
-      ∙ count-idle (length (t .cycles)) (totalMs (tickUnit ws) ticks (t .cycles))
+      ∙ count-idle (length (t .cycles)) (totalMs ticks (t .cycles))
       (none-empty (t .cycles) (λ s m. n s (t .clean .only s m)))
 
   -- The run's moves are these.
@@ -109,5 +109,5 @@ module _ {ws log ticks : List ℕ} {editRoom ruleRoom : ℕ} {report : Report} (
   -- Without a clean cycle there is no time.
   pub idle-no-time : report .pace ≡ Idle → (report .count ≡ 0) × (report .sum ≡ 0)
   idle-no-time e =
-      let n = idle-count (length (t .cycles)) (totalMs (tickUnit ws) ticks (t .cycles)) (sym told-pace ∙ e) in
-      (told-count ∙ n, told-sum ∙ no-time (tickUnit ws) ticks (t .cycles) n)
+      let n = idle-count (length (t .cycles)) (totalMs ticks (t .cycles)) (sym told-pace ∙ e) in
+      (told-count ∙ n, told-sum ∙ no-time ticks (t .cycles) n)

@@ -1,7 +1,6 @@
 -- `marks::marks_as` meets its contract: refusals 5 to 12 of the parse, then 15, or the marks.
-use native.Mathlib.Omega.{arith}
 use mathlib.Core.Path.{refl}
-use Rattle.parser.specs.Parses.{lent-made}
+use Rattle.parser.specs.Parses.{lent-made, parsed-only10}
 use Rattle.marks.proofs.Answering.{marks-can-put, marks-whole, marks-short, marks-unparsed}
 use borrow.Author.Needs.{needs}
 use Rattle.marks.proofs.marks_as.Statement.{statement}
@@ -33,7 +32,7 @@ put-marks-requires c κs =
     let parse-tabled =
     c .before .before .before .before .before .before .before .before .before .before .before .before .before .parse-tabled in
     let parsing = c .before .before .before .before .before .parsing in
-    marks-can-put (parse-tabled .ensures .0) (parsing .given .1) (parse-tabled .ensures .1) (start .pre)
+    marks-can-put (parsed-only10 refl (parse-tabled .ensures .0)) (parsing .given .1) (parse-tabled .ensures .1) (start .pre)
 
 enum-known-result : tie.Need-enum-known-result
 enum-known-result c = search needs
@@ -82,7 +81,7 @@ returns c =
     in
     let put-marks = c .before .before .before .before .before .before .before .before .before .put-marks in
     let result = c .before .before .before .before .before .result in
-    marks-whole (parse-tabled .ensures .0) (parsing .given .1) (start .pre) (put-marks .ensures) (result .given .1)
+    marks-whole (parsed-only10 refl (parse-tabled .ensures .0)) (parsing .given .1) (start .pre) (put-marks .ensures) (result .given .1)
     (c .before .before .clear-words .ensures)
 
 same-length-4 : tie.Need-same-length-4
@@ -112,7 +111,7 @@ returns-2 c =
     let enum-told = c .before .before .before .before .before .before .before .before .before .before .before .before .enum-told in
     let clear-words2 = c .before .before .before .before .before .before .before .before .before .before .clear-words2 in
     let clear-words3 = c .before .before .before .before .before .before .clear-words3 in
-    marks-short (parse-tabled .ensures .0) (parsing .given .1) (start .pre) (put-marks .ensures) (enum-told .given .1)
+    marks-short (parsed-only10 refl (parse-tabled .ensures .0)) (parsing .given .1) (start .pre) (put-marks .ensures) (enum-told .given .1)
     (parse-tabled .kept .1 .1 .1 .1 .1 .0) (parse-tabled .kept .1 .1 .1 .1 .1 .1 .0) (put-marks .kept .1 .1 .1 .1 .1 .1 .1 .0)
     (clear-words2 .ensures) (clear-words3 .ensures) (c .before .before .clear-words4 .ensures)
 
@@ -133,7 +132,7 @@ returns-3 c =
     let parse-tabled =
     c .before .before .before .before .before .before .before .before .before .before .before .before .before .parse-tabled in
     let parsing2 = c .before .before .before .before .before .parsing2 in
-    marks-unparsed (parse-tabled .ensures .0) (start .args .tokens .now) (parsing2 .given .1) refl
+    marks-unparsed (parsed-only10 refl (parse-tabled .ensures .0)) (start .args .tokens .now) (parsing2 .given .1) refl
     (c .before .before .clear-words5 .ensures)
 
 pub marks-as-spec : {M : Type 1} → statement M

@@ -56,20 +56,13 @@ loop-again c =
     let here = c .before .before .before .here-at in
     (held .0, watching-next (held .1) (held .0) (turn .loop-test .taken) (here .ensures) (c .passed .ensures))
 
-unit-ms-requires : tie.Need-unit-ms-requires Inv-loop μ-loop
-unit-ms-requires c κs = c .before .loop .inv .1 .lent .shaped
-
-mul-sum : tie.Need-mul-sum Inv-loop μ-loop
-mul-sum c = omega (arith, watching-exact (c .before .before .before .loop .inv .1) (c .before .unit-ms .ensures))
-
 pace-of-requires : tie.Need-pace-of-requires Inv-loop μ-loop
-pace-of-requires c κs = watching-exact (c .before .before .before .loop .inv .1) (c .before .unit-ms .ensures)
+pace-of-requires c κs = watching-exact (c .before .loop .inv .1)
 
 returns : tie.Need-returns Inv-loop μ-loop
 returns c =
-    let unit = c .before .before in
-    let end = unit .before in
-    watching-end (end .before .loop .inv .1) (end .loop-test .left) (unit .unit-ms .ensures) (c .pace-of .ensures)
+    let end = c .before in
+    watching-end (end .before .loop .inv .1) (end .loop-test .left) (c .pace-of .ensures)
 
 pub cycles-spec : {M : Type 1} → statement M
 cycles-spec =
@@ -88,7 +81,5 @@ cycles-spec =
     add-place
     loop-less
     loop-again
-    unit-ms-requires
-    mul-sum
     pace-of-requires
     returns)

@@ -1,8 +1,6 @@
 -- `parser::parse_tabled` meets its contract: the buffers are cleared behind what the run left, or whole.
 use native.Mathlib.Omega.{arith}
-use native.Mathlib.Omega.{arith}
-use mathlib.Core.Path.{_≡_}
-use mathlib.Core.Bool.{true}
+use Rattle.parser.specs.Asking.{asksBy}
 use Rattle.parser.specs.Parses.{settled-fits, parses-counts, parses-refused, cheap-told}
 use borrow.Author.Needs.{needs}
 use Rattle.parser.proofs.parse_tabled.Statement.{statement}
@@ -23,7 +21,7 @@ mul-clear-words c =
     let answer = c .before .before .before .answer in
     omega (
       arith,
-      settled-fits (start .args .asked ≡ true) _ _ (start .args .edits .now) (start .args .rules .now) (settle .last .1 .1 .1 .1 .1 .0)
+      settled-fits (asksBy (start .args .asking)) _ _ (start .args .edits .now) (start .args .rules .now) (settle .last .1 .1 .1 .1 .1 .0)
           (settle .last .1 .1 .1 .1 .1 .1 .0) (settle .ensures .0) (answer .given .1) .0,
       start .good,
     )
@@ -65,7 +63,7 @@ returns c =
     .before .before .before .before .settle in
     let answer = c .before .before .before .before .before .before .before .before .before .before .answer in
     let clear-words = c .before .before .before .before .before .before .clear-words in (
-      parses-counts (start .args .asked ≡ true) _ _ (start .args .edits .now) (start .args .rules .now) (settle .last .1 .1 .1 .1 .1 .0)
+      parses-counts (asksBy (start .args .asking)) _ _ (start .args .edits .now) (start .args .rules .now) (settle .last .1 .1 .1 .1 .1 .0)
           (settle .last .1 .1 .1 .1 .1 .1 .0) (settle .ensures .0) (settle .kept .1 .1 .1 .1 .1 .0) (settle .kept .1 .1 .1 .1 .1 .1 .0) _ _
           (answer .given .1)
           (clear-words .ensures) (c .before .before .clear-words2 .ensures),
@@ -94,7 +92,7 @@ returns-2 c =
     .before .before .before .settle in
     let answer2 = c .before .before .before .before .before .before .before .before .before .answer2 in
     let clear-words3 = c .before .before .before .before .before .before .clear-words3 in (
-      parses-refused (start .args .asked ≡ true) _ _ (start .args .edits .now) (start .args .rules .now) (settle .last .1 .1 .1 .1 .1 .0)
+      parses-refused (asksBy (start .args .asking)) _ _ (start .args .edits .now) (start .args .rules .now) (settle .last .1 .1 .1 .1 .1 .0)
           (settle .last .1 .1 .1 .1 .1 .1 .0) (settle .ensures .0) (settle .kept .1 .1 .1 .1 .1 .0) (settle .kept .1 .1 .1 .1 .1 .1 .0) _ _
           (answer2 .given .1)
           (clear-words3 .ensures) (c .before .before .clear-words4 .ensures),

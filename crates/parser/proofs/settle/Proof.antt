@@ -1,9 +1,9 @@
--- `parser::settle` meets its contract: refusals 5 to 10, or the run; and the tables where the words are accepted.
+-- `parser::settle` meets its contract: the refusals before the run, or the run; and the tables where the words are accepted.
 use native.Mathlib.Omega.{arith}
-use mathlib.Core.Path.{_≡_, refl}
-use mathlib.Core.Bool.{true}
+use mathlib.Core.Path.{refl}
 use Rattle.base.specs.Blank.{blank-made}
-use Rattle.parser.specs.Parses.{check-refuses, cheap-refused, log-can, log-refuses, run-can, run-cheap, run-settles}
+use Rattle.parser.specs.Asking.{asksBy}
+use Rattle.parser.specs.Parses.{check-refuses, cheap-refused, log-can, admits-refuses, run-can, run-cheap, run-settles}
 use borrow.Author.Needs.{needs}
 use Rattle.parser.proofs.settle.Statement.{statement}
 use Rattle.parser.proofs.settle.Tie as tie
@@ -22,30 +22,14 @@ tables-requires c κs =
 enum-told : tie.Need-enum-told
 enum-told c = search needs
 
-log-fits-requires : tie.Need-log-fits-requires
-log-fits-requires c κs =
-    let start =
-    c .before .before .before .before .before .before .before .before .before .before .before .before .before .before .before .before
-    .before .before .before in
-    let tables = c .before .before .before .before .before .before .before .before .tables in
-    log-can (start .args .asked ≡ true) (tables .ensures) (c .enum-told .given .1)
+admits-requires : tie.Need-admits-requires
+admits-requires c κs =
+    let at-tables = c .before .before .before .before .before .before .before .before in
+    let start = at-tables .before .before .before .before .before .before .before .before .before .before .before in
+    log-can (asksBy (start .args .asking)) (at-tables .tables .ensures) (c .enum-told .given .1)
 
-same-length : tie.Need-same-length
-same-length c = search needs
-
-same-length-2 : tie.Need-same-length-2
-same-length-2 c = search needs
-
-returns : tie.Need-returns
-returns c =
-    let start =
-    c .before .before .before .before .before .before .before .before .before .before .before .before .before .before .before .before
-    .before .before .before .before .before in
-    let tables = c .before .before .before .before .before .before .before .before .before .before .tables in (
-      log-refuses (start .args .asked ≡ true) (tables .ensures) (c .before .before .enum-told .given .1) (c .before .log-fits .ensures) _ _
-          _ _ (c .if1 .left),
-      cheap-refused _ _ _ _,
-    )
+enum-told-2 : tie.Need-enum-told-2
+enum-told-2 c = search needs
 
 slice-aggregate-run : tie.Need-slice-aggregate-run
 slice-aggregate-run c = search needs
@@ -58,25 +42,44 @@ slice-aggregate-run-3 c = search needs
 
 run-requires : tie.Need-run-requires
 run-requires c κs =
-    let start =
-    c .before .before .before .before .before .before .before .before .before .before .before .before .before .before .before .before
-    .before .before .before .before .before .before .before .before .before .before .before .before in
-    let tables =
-    c .before .before .before .before .before .before .before .before .before .before .before .before .before .before .before .before
-    .before .tables in
-    let enum-told = c .before .before .before .before .before .before .before .before .before .enum-told in
-    let log-fits = c .before .before .before .before .before .before .before .before .log-fits in
-    let if1 = c .before .before .before .before .before .before .before .if1 in
-    run-can (start .args .asked ≡ true) (tables .ensures) (enum-told .given .1) (log-fits .ensures) _ (if1 .taken) (omega arith)
+    let at-enum-told2 = c .before .before .before .before .before .before .before in
+    let at-admits = at-enum-told2 .before .before in
+    let at-enum-told = at-admits .before in
+    let at-tables = at-enum-told .before .before .before .before .before .before .before .before in
+    let start = at-tables .before .before .before .before .before .before .before .before .before .before .before in
+    run-can (asksBy (start .args .asking)) (at-tables .tables .ensures) (at-enum-told .enum-told .given .1) (at-admits .admits .ensures) _
+    (at-enum-told2 .enum-told2 .given .1) (omega arith)
+
+enum-known-admitted : tie.Need-enum-known-admitted
+enum-known-admitted c = search needs
 
 enum-known-checked : tie.Need-enum-known-checked
 enum-known-checked c = search needs
+
+same-length : tie.Need-same-length
+same-length c = search needs
+
+same-length-2 : tie.Need-same-length-2
+same-length-2 c = search needs
 
 same-length-3 : tie.Need-same-length-3
 same-length-3 c = search needs
 
 same-length-4 : tie.Need-same-length-4
 same-length-4 c = search needs
+
+returns : tie.Need-returns
+returns c =
+    let at-run = c .before .before .before .before .before in
+    let at-enum-told2 = at-run .before .before .before .before .before .before .before .before in
+    let at-admits = at-enum-told2 .before .before in
+    let at-enum-told = at-admits .before in
+    let at-tables = at-enum-told .before .before .before .before .before .before .before .before in
+    let start = at-tables .before .before .before .before .before .before .before .before .before .before .before in (
+      run-settles (asksBy (start .args .asking)) (at-tables .tables .ensures) (at-enum-told .enum-told .given .1)
+          (at-admits .admits .ensures) _ _ _ _ (at-run .run .result) (at-enum-told2 .enum-told2 .given .1) (at-run .run .ensures),
+      run-cheap (asksBy (start .args .asking)) (at-tables .tables .ensures) (at-enum-told .enum-told .given .1) _,
+    )
 
 same-length-5 : tie.Need-same-length-5
 same-length-5 c = search needs
@@ -86,23 +89,14 @@ same-length-6 c = search needs
 
 returns-2 : tie.Need-returns-2
 returns-2 c =
-    let start =
-    c .before .before .before .before .before .before .before .before .before .before .before .before .before .before .before .before
-    .before .before .before .before .before .before .before .before .before .before .before .before .before .before .before .before
-    .before .before in
-    let tables =
-    c .before .before .before .before .before .before .before .before .before .before .before .before .before .before .before .before
-    .before .before .before .before .before .before .before .tables in
-    let enum-told =
-    c .before .before .before .before .before .before .before .before .before .before .before .before .before .before .before
-    .enum-told in
-    let log-fits =
-    c .before .before .before .before .before .before .before .before .before .before .before .before .before .before .log-fits in
-    let if1 = c .before .before .before .before .before .before .before .before .before .before .before .before .before .if1 in
-    let run = c .before .before .before .before .before .run in (
-      run-settles (start .args .asked ≡ true) (tables .ensures) (enum-told .given .1) (log-fits .ensures) _ _ _ _ (run .result)
-          (if1 .taken) (run .ensures),
-      run-cheap (start .args .asked ≡ true) (tables .ensures) (enum-told .given .1) _,
+    let at-admitted = c .before in
+    let at-admits = at-admitted .before .before in
+    let at-enum-told = at-admits .before in
+    let at-tables = at-enum-told .before .before .before .before .before .before .before .before in
+    let start = at-tables .before .before .before .before .before .before .before .before .before .before .before in (
+      admits-refuses (asksBy (start .args .asking)) (at-tables .tables .ensures) (at-enum-told .enum-told .given .1)
+          (at-admits .admits .ensures) _ _ _ _ (at-admitted .admitted .given .1),
+      cheap-refused _ _ _ _,
     )
 
 same-length-7 : tie.Need-same-length-7
@@ -113,11 +107,10 @@ same-length-8 c = search needs
 
 returns-3 : tie.Need-returns-3
 returns-3 c =
-    let start =
-    c .before .before .before .before .before .before .before .before .before .before .before .before .before .before .before .before
-    .before .before .before .before in
-    let tables = c .before .before .before .before .before .before .before .before .before .tables in (
-      check-refuses (start .args .asked ≡ true) (tables .ensures) _ _ _ _ _ (c .before .checked .given .1),
+    let at-checked = c .before in
+    let at-tables = at-checked .before .before .before .before .before .before .before .before in
+    let start = at-tables .before .before .before .before .before .before .before .before .before .before .before in (
+      check-refuses (asksBy (start .args .asking)) (at-tables .tables .ensures) _ _ _ _ _ (at-checked .checked .given .1),
       cheap-refused _ _ _ _,
     )
 
@@ -129,17 +122,19 @@ settle-spec =
     slice-aggregate-tables-2
     tables-requires
     enum-told
-    log-fits-requires
-    same-length
-    same-length-2
-    returns
+    admits-requires
+    enum-told-2
     slice-aggregate-run
     slice-aggregate-run-2
     slice-aggregate-run-3
     run-requires
+    enum-known-admitted
     enum-known-checked
+    same-length
+    same-length-2
     same-length-3
     same-length-4
+    returns
     same-length-5
     same-length-6
     returns-2
