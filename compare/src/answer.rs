@@ -1,7 +1,8 @@
-//! What an implementation of document 01, and of requests (i) to (iv) and (vi) of document 02, answers, besides
-//! the buffers it was lent.
+//! What an implementation of document 01, and of requests (i) to (iv), (vi) and (viii) of document 02, answers,
+//! besides the buffers it was lent.
 
-/// A refusal number: 1 to 12 of the table, 13 and 14 of request (i), 23 of request (iii), 15 of request (iv).
+/// A refusal number: 1 to 12 of the table, 13 and 14 of request (i), 23 of request (iii), 15 of request (iv), 16 of
+/// request (viii).
 pub type Refusal = u16;
 
 /// Longest log: "over 4,096 tokens" is refusal 10.
@@ -73,8 +74,8 @@ pub trait Implementation {
     /// Reads a grammar file: its words into `words`, their number as the answer.
     fn read(&self, file: &[u8], words: &mut [u16]) -> Result<usize, Refusal>;
 
-    /// Writes the grammar file of any words into `bytes`, the number of its bytes as the answer;
-    /// refusals 13 and 14.
+    /// Writes the grammar file of any words but those of unit 1 into `bytes`, the number of its bytes as the
+    /// answer; refusals 13, 16 and 14.
     fn write(&self, words: &[u16], bytes: &mut [u8]) -> Result<usize, Refusal>;
 
     /// Checks grammar words, refusals 5 to 9.
@@ -103,7 +104,7 @@ pub trait Implementation {
         marks: &mut [u16],
     ) -> Result<Marked, Refusal>;
 
-    /// Runs the parse and reports the pace, refusals 5 to 12.
+    /// Runs the parse and reports the pace, refusals 5 to 12, with 16 between 10 and 11.
     fn report(
         &self,
         words: &[u16],

@@ -1,12 +1,14 @@
 //! The bench examples of document 01 and its further claims, with the records that request (ii) of
 //! document 02 leaves them, in [`empty_parts`] more examples of that request, in [`writing`] those of
-//! request (i), in [`cheapest`] those of request (iii), in [`marks`] those of request (iv), and in [`restarts`]
-//! those of request (vi). The expected results are written by hand from the documents, never taken from a program.
+//! request (i), in [`cheapest`] those of request (iii), in [`marks`] those of request (iv), in [`restarts`]
+//! those of request (vi), and in [`units`] those of request (viii). The expected results are written by hand from the
+//! documents, never taken from a program.
 
 pub mod cheapest;
 pub mod empty_parts;
 pub mod marks;
 pub mod restarts;
+pub mod units;
 pub mod writing;
 
 use crate::answer::{Pace, Prints};
@@ -23,10 +25,10 @@ pub struct Example {
     pub ticks: Vec<u32>,
     /// The listing, to the letter.
     pub listing: String,
-    /// The refusal, or the edit records and the rule numbers.
+    /// The parser's refusal, or the edit records and the rule numbers.
     pub lists: Result<Lists, u16>,
-    /// The mean in ms, nothing when idle or refused.
-    pub mean: Option<f64>,
+    /// The report's refusal, or the mean in ms, nothing when idle.
+    pub pace: Result<Option<f64>, u16>,
 }
 
 /// What the two buffers hold.
@@ -67,7 +69,7 @@ fn parsed(
             edits: edits.to_vec(),
             rules: rules.to_vec(),
         }),
-        mean: None,
+        pace: Ok(None),
     }
 }
 
@@ -80,7 +82,7 @@ fn refused(name: &'static str, draft: &Draft, tokens: &[u16], number: u16) -> Ex
         ticks: vec![0; tokens.len()],
         listing: format!("refused {number}\n"),
         lists: Err(number),
-        mean: None,
+        pace: Err(number),
     }
 }
 
@@ -95,8 +97,15 @@ impl Example {
         let mut example = self.timed(ticks);
         let pace = format!("pace cycles {cycles} ms {ms}\n");
         example.listing = example.listing.replace("pace idle\n", &pace);
-        example.mean = Some(ms as f64 / cycles as f64);
+        example.pace = Ok(Some(ms as f64 / cycles as f64));
         example
+    }
+
+    /// The example whose report and listing are refused with 16.
+    fn without_pace(mut self) -> Example {
+        self.pace = Err(16);
+        self.listing = "refused 16\n".to_string();
+        self
     }
 
     /// The example with these ticks.
@@ -106,8 +115,8 @@ impl Example {
     }
 }
 
-/// All examples: cases 1 to 12 in order, then the further claims, then those of request (ii), then those of request
-/// (vi). By (ii) "cases 3, 4, 6, 7 and 12 lose their records for 67 and 64", and "move counts" stay.
+/// All examples: cases 1 to 12 in order, then the further claims, then those of request (ii), then those of requests
+/// (vi) and (viii). By (ii) "cases 3, 4, 6, 7 and 12 lose their records for 67 and 64", and "move counts" stay.
 pub fn all() -> Vec<Example> {
     let g = bench_g();
     let with_reliability_of_4 = |reliability| {
@@ -189,6 +198,7 @@ pub fn all() -> Vec<Example> {
     ];
     examples.extend(empty_parts::all());
     examples.extend(restarts::all());
+    examples.extend(units::all());
     examples
 }
 
@@ -226,9 +236,10 @@ pub fn failures(implementation: &dyn Prints) -> Vec<String> {
             "parse",
             parsed.err() == example.lists.as_ref().err().copied(),
         );
-        let (expected_edits, expected_rules) = expected_buffers(&example, 1_000);
-        expect("edits", edits == expected_edits);
-        expect("rules", rules == expected_rules);
+        let lists = example.lists.as_ref().ok();
+        let expected = expected_buffers(lists, 1_000);
+        expect("edits", edits == expected.0);
+        expect("rules", rules == expected.1);
 
         let (mut edits, mut rules) = (vec![7; 1_000], vec![7; 1_000]);
         let report = implementation.report(
@@ -238,22 +249,23 @@ pub fn failures(implementation: &dyn Prints) -> Vec<String> {
             &mut edits,
             &mut rules,
         );
-        expect("edits of the report", edits == expected_edits);
-        expect("rules of the report", rules == expected_rules);
-        let mean = match report.map(|report| report.pace) {
-            Ok(Pace::Mean(mean)) => Some(mean),
-            _ => None,
-        };
-        expect("mean", mean == example.mean);
+        let expected = expected_buffers(lists.filter(|_| example.pace.is_ok()), 1_000);
+        expect("edits of the report", edits == expected.0);
+        expect("rules of the report", rules == expected.1);
+        let pace = report.map(|report| match report.pace {
+            Pace::Mean(mean) => Some(mean),
+            Pace::Idle => None,
+        });
+        expect("pace", pace == example.pace);
     }
     failures
 }
 
-/// Every word of the two buffers after an example.
-fn expected_buffers(example: &Example, length: usize) -> (Vec<u16>, Vec<u16>) {
-    let (mut edits, mut rules) = match &example.lists {
-        Ok(lists) => (lists.edits.concat(), lists.rules.clone()),
-        Err(_) => (Vec::new(), Vec::new()),
+/// Every word of the two buffers after an example, without lists after a refusal.
+fn expected_buffers(lists: Option<&Lists>, length: usize) -> (Vec<u16>, Vec<u16>) {
+    let (mut edits, mut rules) = match lists {
+        Some(lists) => (lists.edits.concat(), lists.rules.clone()),
+        None => (Vec::new(), Vec::new()),
     };
     edits.resize(length, 0);
     rules.resize(length, 0);
@@ -275,6 +287,8 @@ mod tests {
         assert_eq!(cheapest::failures(&Tuned::default()), Vec::<String>::new());
         assert_eq!(marks::failures(&Plain), Vec::<String>::new());
         assert_eq!(marks::failures(&Tuned::default()), Vec::<String>::new());
+        assert_eq!(units::failures(&Plain), Vec::<String>::new());
+        assert_eq!(units::failures(&Tuned::default()), Vec::<String>::new());
     }
 
     #[test]

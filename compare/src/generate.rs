@@ -1,4 +1,4 @@
-//! Seeded inputs for every part of document 01 and of requests (i) and (iii) to (vi): grammars, logs, ticks,
+//! Seeded inputs for every part of document 01 and of requests (i), (iii) to (vi) and (viii): grammars, logs, ticks,
 //! grammar files, standard input, lists of words, texts and lent buffers. Equal seeds give equal inputs.
 
 pub mod buffers;
@@ -17,6 +17,7 @@ pub mod random;
 pub mod restarts;
 pub mod text;
 pub mod ties;
+pub mod units;
 
 pub use draft::Draft;
 pub use input::{Input, Source};

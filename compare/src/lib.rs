@@ -1,4 +1,4 @@
-//! An implementation of document 01, and of requests (i) to (iv) and (vi) of document 02, that shares nothing
+//! An implementation of document 01, and of requests (i) to (iv), (vi) and (viii) of document 02, that shares nothing
 //! with the proved one, and what is needed to compare implementations with each other.
 //!
 //! * [`answer`]: what every implementation answers, and the trait they share;
@@ -10,7 +10,8 @@
 //! * [`generate`]: seeded inputs of every kind;
 //! * [`differ`]: runs one input on implementations and tells the first difference;
 //! * [`seven`]: what a run tells of the inputs with a seven-word header;
-//! * [`examples`]: the bench examples of document 01 and those of requests (i) to (iv) and (vi), expected
+//! * [`hundredths`]: what a run tells of the inputs with unit 1;
+//! * [`examples`]: the bench examples of document 01 and those of requests (i) to (iv), (vi) and (viii), expected
 //!   results written by hand;
 //! * [`telling`]: inputs shaped by hand, each to tell a wrong reading apart;
 //! * [`steps`]: the stored calls of the test programs;
@@ -20,6 +21,7 @@ pub mod answer;
 pub mod differ;
 pub mod examples;
 pub mod generate;
+pub mod hundredths;
 pub mod implementations;
 pub mod library;
 #[cfg(feature = "linked")]

@@ -32,9 +32,9 @@ impl Library {
     }
 }
 
-/// Whether a status is the number of a refusal: those of 01 and of requests (i), (iii) and (iv).
+/// Whether a status is the number of a refusal: those of 01 and of requests (i), (iii), (iv) and (viii).
 pub(crate) fn is_refusal(status: u32) -> bool {
-    matches!(status, 1..=15 | 23)
+    matches!(status, 1..=16 | 23)
 }
 
 /// A refusal carries no counts and no mean; without one the counts behind those given are zero.

@@ -1,5 +1,5 @@
-//! The plain implementation of document 01 and of requests (i) to (iv) and (vi) of document 02. It is meant to be
-//! read beside the documents: sets are textbook fixpoints, the stack is inspected literally, and comments
+//! The plain implementation of document 01 and of requests (i) to (iv), (vi) and (viii) of document 02. It is meant
+//! to be read beside the documents: sets are textbook fixpoints, the stack is inspected literally, and comments
 //! in quotes are the documents' own words. Nothing here is made for speed.
 
 mod check;
@@ -26,7 +26,7 @@ pub use parse::{needed, parse};
 pub use reader::read;
 pub use sets::{Sets, TerminalSet};
 pub use text::{words_of_text, write_grammar};
-pub use writer::write;
+pub use writer::{blocks, write};
 
 use crate::answer::{Implementation, Marked, Parsed, Prints, Refusal, Report};
 

@@ -10,6 +10,7 @@ pub mod lists;
 pub mod marks;
 pub mod restarts;
 pub mod texts;
+pub mod units;
 
 use crate::generate::families::bench_g;
 use crate::generate::file::standard_input;
@@ -107,6 +108,7 @@ pub fn parses() -> Vec<Call> {
     }
     calls.extend(empties::calls());
     calls.extend(restarts::calls());
+    calls.extend(units::calls());
     calls
 }
 
@@ -120,11 +122,12 @@ pub fn reports() -> Vec<Call> {
     calls.extend(tick_counts());
     calls.extend(empties::reports());
     calls.extend(restarts::reports());
+    calls.extend(units::reports());
     calls
 }
 
-/// A mean by whole division, in 32 bits, by the reciprocal of the count, as a mean of means, times
-/// ten behind the division; a sum in 32 bits; a time past the wrap.
+/// A mean by whole division, in 32 bits, by the reciprocal of the count, as a mean of means, of times
+/// in ten ms; a sum in 32 bits; a time past the wrap.
 fn means() -> Vec<Call> {
     let mut calls = Vec::new();
     let times: [&[u32]; 12] = [
@@ -141,20 +144,18 @@ fn means() -> Vec<Call> {
         &[4_294_967_295; 3],
         &[4_000_000_000, 7, 4_294_967_295, 1, 1, 3_999_999_999, 2],
     ];
-    for unit in [0, 1] {
-        for times in times {
-            let mut log = Vec::new();
-            let (mut ticks, mut tick) = (Vec::new(), 4_294_000_000_u32);
-            for time in times {
-                log.extend([1, 2]);
-                ticks.push(tick);
-                tick = tick.wrapping_add(*time);
-                ticks.push(tick);
-                tick = tick.wrapping_add(5);
-            }
-            let call = Call::new(&marks(1, 2, unit), &log).timed(&ticks);
-            calls.push(call.lent(4, log.len() + 3));
+    for times in times {
+        let mut log = Vec::new();
+        let (mut ticks, mut tick) = (Vec::new(), 4_294_000_000_u32);
+        for time in times {
+            log.extend([1, 2]);
+            ticks.push(tick);
+            tick = tick.wrapping_add(*time);
+            ticks.push(tick);
+            tick = tick.wrapping_add(5);
         }
+        let call = Call::new(&marks(1, 2, 0), &log).timed(&ticks);
+        calls.push(call.lent(4, log.len() + 3));
     }
     calls
 }
@@ -273,6 +274,7 @@ pub fn inputs() -> Vec<Vec<u8>> {
         }
     }
     inputs.extend(restarts::inputs());
+    inputs.extend(units::inputs());
     inputs
 }
 

@@ -104,13 +104,11 @@ fn equal_marks_close_one_cycle_and_open_the_next() {
 }
 
 #[test]
-fn unit_1_counts_tens_and_an_edit_before_the_opening_mark_is_no_matter() {
+fn an_edit_before_the_opening_mark_is_no_matter() {
     each(|on| {
-        let mut draft = bench_g();
-        draft.unit = 1;
         // The first 4 is deleted at place 0; the cycle runs from 1 to 4.
-        let answer = report(on, &draft, &[4, 1, 2, 3, 4], &[0, u32::MAX, 0, 0, 2]);
-        assert_eq!(answer, (1, 30, 30.0));
+        let answer = report(on, &bench_g(), &[4, 1, 2, 3, 4], &[0, u32::MAX, 0, 0, 2]);
+        assert_eq!(answer, (1, 3, 3.0));
     });
 }
 

@@ -71,7 +71,7 @@ fn the_lowest_refusal_is_given_whatever_the_buffers() {
     });
 }
 
-/// Ticks in ten ms are no obstacle, and are printed as they came.
+/// Ticks in ten ms are no obstacle, and are printed as they came: 02 (viii) refuses the pace alone.
 #[test]
 fn unit_1_is_no_obstacle() {
     each(|on| {

@@ -49,7 +49,9 @@ fn restarts_inside_make_cycles_unclean() {
     let tuned = Tuned::default();
     let (mut clean, mut unclean, mut beside) = (0, 0, 0);
     for index in 0..4_000 {
-        let draft = restarts::draft(&mut random);
+        let mut draft = restarts::draft(&mut random);
+        // No pace comes from unit 1.
+        draft.unit = 0;
         let words = draft.words();
         if draft.opening == 0 || plain::check(&words).is_err() {
             continue;
@@ -68,10 +70,8 @@ fn restarts_inside_make_cycles_unclean() {
         };
         let all = cycles(&draft, &log, &edits);
         let left: Vec<_> = all.iter().filter(|cycle| !cycle.2).collect();
-        let time = |cycle: &&(usize, usize, bool)| {
-            let time = u64::from(ticks[cycle.1].wrapping_sub(ticks[cycle.0]));
-            time * if draft.unit == 1 { 10 } else { 1 }
-        };
+        let time =
+            |cycle: &&(usize, usize, bool)| u64::from(ticks[cycle.1].wrapping_sub(ticks[cycle.0]));
         assert_eq!(report.cycles, left.len() as u64, "{words:?} {log:?}");
         assert_eq!(report.ms, left.iter().map(time).sum::<u64>());
         let found = tuned.report(&words, &log, &ticks, &mut edits, &mut rules);

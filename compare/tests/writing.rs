@@ -1,11 +1,11 @@
-//! Single sentences of request (i) of document 02, each with an answer worked out by hand, on every
-//! implementation; and what is said of every file and every text.
+//! Single sentences of requests (i) and (viii) of document 02 on the writer, each with an answer worked out by hand,
+//! on every implementation; and what is said of every file and every text.
 
 use compare::answer::Prints;
 use compare::generate::families::bench_g;
 use compare::generate::file::file_of;
 use compare::generate::{Input, Source};
-use compare::plain::{read, words_of_text, write, write_grammar};
+use compare::plain::{blocks, read, words_of_text, write, write_grammar};
 use compare::telling::lists::telling_sums;
 use compare::{examples, implementations};
 use std::io::Write;
@@ -88,11 +88,49 @@ fn the_telling_sums_have_the_checks_that_their_comment_claims() {
     assert_eq!(checks, [65_520, 0, 1, 14, 15]);
 }
 
-/// "A file the reader accepts is the only one for its words", and the generators' own writer agrees.
+/// 02 (viii): the writer refuses "six words or more with word 5 equal to 1", after 13 and before 14, whatever else the
+/// words are.
+#[test]
+fn refusal_16_comes_behind_13_and_before_14_and_leaves_zeros() {
+    each(|on| {
+        let answer = |words: &[u16], room: usize| {
+            let mut bytes = vec![170; room];
+            let answer = on.write(words, &mut bytes);
+            assert!(answer.is_ok() || bytes.iter().all(|&byte| byte == 0));
+            answer
+        };
+        for count in 1..=5 {
+            assert_eq!(answer(&vec![1; count], 512), Ok(512));
+            assert_eq!(answer(&vec![1; count], 511), Err(14));
+        }
+        for count in [6, 7, 42, 253, 254, 2_783] {
+            for room in [0, 511, 512, 5_632, 9_000] {
+                assert_eq!(answer(&vec![1; count], room), Err(16), "{count} in {room}");
+            }
+        }
+        for room in [0, 512, 9_000] {
+            assert_eq!(answer(&vec![1; 2_784], room), Err(13));
+            assert_eq!(answer(&vec![1; 65_536], room), Err(13));
+        }
+        // Only word 5, and only 1.
+        for place in 0..9 {
+            let mut words = vec![0; 9];
+            words[place] = 1;
+            let expected = if place == 5 { Err(16) } else { Ok(512) };
+            assert_eq!(answer(&words, 512), expected);
+        }
+        for word in (0..=u16::MAX).filter(|&word| word != 1) {
+            assert_eq!(answer(&[0, 0, 0, 0, 0, word], 512), Ok(512));
+        }
+    });
+}
+
+/// "A file the reader accepts is the only one for its words", and the generators' own writer agrees. The blocks and the
+/// reader know nothing of the unit, and the writer writes these blocks where word 5 is not 1.
 #[test]
 fn a_file_that_is_accepted_is_the_one_that_is_written() {
     let source = Source::new(31);
-    let (mut accepted, mut refused) = (0, 0);
+    let (mut accepted, mut refused, mut old) = (0, 0, 0);
     for index in 0..20_000 {
         let Input::Read { file, .. } = source.input(index) else {
             continue;
@@ -103,12 +141,22 @@ fn a_file_that_is_accepted_is_the_one_that_is_written() {
             continue;
         };
         let mut bytes = vec![170; file.len()];
-        assert_eq!(write(&words[..count], &mut bytes), Ok(file.len()));
-        assert_eq!(bytes, file);
+        let answer = write(&words[..count], &mut bytes);
+        if count > 5 && words[5] == 1 {
+            assert_eq!(answer, Err(16));
+            old += 1;
+        } else {
+            assert_eq!(answer, Ok(file.len()));
+            assert_eq!(bytes, file);
+        }
+        assert_eq!(blocks(&words[..count]), file);
         assert_eq!(file_of(&words[..count]), file);
         accepted += 1;
     }
-    assert!(accepted > 500 && refused > 500, "{accepted} and {refused}");
+    assert!(
+        accepted > 500 && refused > 500 && old > 50,
+        "{accepted}, {old} of them with unit 1, and {refused}"
+    );
 }
 
 #[test]
@@ -160,6 +208,11 @@ fn the_program_makes_a_file_or_says_why_not() {
         write_grammar("7 ".repeat(2_783).as_bytes()),
         Ok(file_of(&[7; 2_783]))
     );
+    // Unit 1, and five words.
+    let refused = Err("write_grammar: refused 16\n".to_string());
+    assert_eq!(write_grammar(b"7 4 6 1 4 1\n"), refused);
+    assert_eq!(write_grammar("1 ".repeat(2_783).as_bytes()), refused);
+    assert_eq!(write_grammar(b"7 4 6 1 4"), Ok(file_of(&[7, 4, 6, 1, 4])));
     // A word that is no number is told before 13.
     let mut long = "7 ".repeat(2_800);
     long.push('x');
@@ -172,6 +225,7 @@ fn the_program_leaves_standard_output_empty_where_it_makes_no_file() {
     for (text, line, size) in [
         ("65535\n", "", 512),
         ("", "write_grammar: refused 13\n", 0),
+        ("7 4 6 1 4 1\n", "write_grammar: refused 16\n", 0),
         (
             "1 2 x",
             "write_grammar: word 3 is no number from 0 to 65535\n",

@@ -212,7 +212,9 @@ impl Bench {
     /// Write of G's words and of as many as are written, into as many bytes as a file has at most.
     fn write(&self, random: &mut Random) {
         self.head(&format!("write into {LONGEST_FILE} bytes, ns a call"));
-        let any = (0..MOST_WORDS).map(|_| random.bits() as u16).collect();
+        let mut any: Vec<u16> = (0..MOST_WORDS).map(|_| random.bits() as u16).collect();
+        // Unit 1 would be refused.
+        any[5] = 0;
         for words in [families::bench_g().words(), any] {
             let mut outcomes = self.columns.iter().map(|column| {
                 let mut bytes = vec![0xAA; LONGEST_FILE];

@@ -3,11 +3,12 @@
 //!
 //! `desk_check SEED COUNT [FIRST]` runs grammars FIRST (0 if not given) to FIRST + COUNT - 1. At the first
 //! difference it prints a reproducer and exits with 1; it also exits with 1 when a refusal, a tie or an accepted
-//! grammar with a restart mark was never met. How far it is goes to standard error.
+//! grammar with a restart mark or with unit 1 was never met. How far it is goes to standard error.
 
 use compare::answer::Prints;
 use compare::differ::{outcome, Outcome};
 use compare::generate::{Input, Source};
+use compare::hundredths::Hundredths;
 use compare::implementations::{self, PLAIN};
 use compare::plain::{self, Grammar, Sets};
 use compare::seven::Seven;
@@ -102,6 +103,7 @@ struct Tally {
     through: u64,
     high: u64,
     seven: Seven,
+    hundredths: Hundredths,
 }
 
 impl Tally {
@@ -109,6 +111,7 @@ impl Tally {
         let refusal = outcome.answer.as_ref().err().copied().unwrap_or(0);
         self.calls[usize::from(refusal)] += 1;
         self.seven.count(input, outcome);
+        self.hundredths.count(input, outcome);
     }
 
     fn look_at(&mut self, words: &[u16], outcome: &Outcome) {
@@ -121,10 +124,10 @@ impl Tally {
         self.high += u64::from(outcome.buffers[1].iter().any(|&rule| rule > 127));
     }
 
-    /// Whether every refusal was met, a tie, and a restart mark.
+    /// Whether every refusal was met, a tie, a restart mark, and unit 1.
     fn is_full(&self) -> bool {
         let refused = REFUSALS.iter().all(|&number| self.calls[number] > 0);
-        refused && self.tied > 0 && self.seven.marked > 0
+        refused && self.tied > 0 && self.seven.marked > 0 && self.hundredths.accepted > 0
     }
 
     fn print(&self) {
@@ -138,6 +141,7 @@ impl Tally {
         println!("{:>16} {}", "through another", self.through);
         println!("{:>16} {}", "rules over 127", self.high);
         self.seven.print(16, false);
+        self.hundredths.print(16, false);
     }
 }
 

@@ -1,7 +1,7 @@
-//! Writes the bench examples of document 01, its further claims and the examples of requests (ii) and (vi) into a
-//! folder: for each the bytes of standard input (`NAME.in`) and the expected listing (`NAME.out`).
+//! Writes the bench examples of document 01, its further claims and the examples of requests (ii), (vi) and (viii) into
+//! a folder: for each the bytes of standard input (`NAME.in`) and the expected listing (`NAME.out`).
 
-use compare::examples;
+use compare::examples::{self, units};
 use compare::generate::file::standard_input;
 use std::path::PathBuf;
 use std::{env, fs, io, process};
@@ -23,6 +23,12 @@ fn main() -> io::Result<()> {
             &example.listing,
         )?;
     }
-    println!("{} examples written", examples.len());
+    let printed = units::printed();
+    for (number, (input, listing)) in printed.iter().enumerate() {
+        let name = format!("unit-1-printed-{number}");
+        fs::write(folder.join(format!("{name}.in")), input)?;
+        fs::write(folder.join(format!("{name}.out")), listing)?;
+    }
+    println!("{} examples written", examples.len() + printed.len());
     Ok(())
 }

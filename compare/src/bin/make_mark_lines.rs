@@ -4,7 +4,8 @@
 //! `inputs.bin` holds for each input its length as a u32, little endian, and its bytes; `expected.txt` holds the lines
 //! one behind the other. The printed examples of request (iv) come first, with what is written by hand; then COUNT
 //! seeded inputs, of which long ones are few; then those that are shaped to tell wrong readings apart; then a quarter
-//! as many seeded ones with the header of seven words. Exits with 1 when some refusal is missing. Refusal 4 always is: the program lends as many words as eleven blocks hold.
+//! as many seeded ones with the header of seven words. Exits with 1 when some refusal is missing. Refusal 4 always is:
+//! the program lends as many words as eleven blocks hold.
 //!
 //! `make_mark_lines FOLDER` writes the first of these examples alone, as `print_marks.in` and `print_marks.out`.
 

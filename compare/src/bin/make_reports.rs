@@ -2,9 +2,9 @@
 //! FOLDER`.
 //!
 //! `steps.bin` holds the steps, as `compare::steps` says, and `answers.txt` a line for each report.
-//! The bench examples come first, each in buffers of lengths around what it needs; then COUNT
-//! seeded calls; then those that are shaped to tell wrong readings apart; then a quarter as many seeded ones with the
-//! header of seven words.
+//! The bench examples come first, each in buffers of lengths around what it needs, and the calls among the examples of
+//! request (viii); then COUNT seeded calls; then those that are shaped to tell wrong readings apart; then a quarter as
+//! many seeded ones with the header of seven words.
 
 use compare::generate::{Header, Input, Source};
 use compare::steps::{Steps, MOST_ROOM};
@@ -37,6 +37,10 @@ fn main() -> io::Result<()> {
         for room in (0..=rules + 2).rev().take(4) {
             steps.report(words, tokens, ticks, edits + 2, room);
         }
+    }
+    for call in examples::units::reports() {
+        let [edits, rules] = call.rooms;
+        steps.report(&call.words, &call.tokens, &call.ticks, edits, rules);
     }
     let source = Source::new(seed);
     seeded(&mut steps, &source, Header::Six, count);

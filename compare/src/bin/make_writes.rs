@@ -1,10 +1,10 @@
 //! Writes calls of the writer and what the plain implementation answers: `make_writes SEED COUNT FOLDER`.
 //!
 //! `steps.bin` holds the steps, as `compare::steps::writing` says, and `answers.txt` the lines of each
-//! call. The examples of request (i) come first, in its order; then lists and rooms at every edge; then
-//! COUNT seeded ones.
+//! call. The examples of request (i) come first, in its order, and those of request (viii); then lists and rooms at
+//! every edge; then COUNT seeded ones.
 
-use compare::examples::writing;
+use compare::examples::{units, writing};
 use compare::generate::{Input, Source};
 use compare::steps::writing::{Writes, MOST_BYTES};
 use compare::steps::MOST_WORDS;
@@ -23,7 +23,7 @@ fn main() -> io::Result<()> {
         process::exit(2);
     };
     let mut writes = Writes::default();
-    for example in writing::all() {
+    for example in writing::all().into_iter().chain(units::writings()) {
         writes.write(&example.words, example.room);
     }
     for (words, room) in lists::writes().into_iter().chain(lists::telling_sums()) {

@@ -3,11 +3,12 @@
 //!
 //! `marks_check SEED COUNT [FIRST]` runs logs FIRST (0 if not given) to FIRST + COUNT - 1. At the first difference it
 //! prints a reproducer and exits with 1; it also exits with 1 when refusal 15, the string of a nonterminal or an
-//! accepted grammar with a restart mark was never met. How far it is goes to standard error.
+//! accepted grammar with a restart mark or with unit 1 was never met. How far it is goes to standard error.
 
 use compare::answer::Prints;
 use compare::differ::{outcome, Outcome};
 use compare::generate::{marks, Input, Source};
+use compare::hundredths::Hundredths;
 use compare::implementations::{self, PLAIN};
 use compare::seven::Seven;
 use std::process::ExitCode;
@@ -96,6 +97,7 @@ fn hold_lines(all: &[Box<dyn Prints>], input: &Input, tally: &mut Tally) -> Resu
     let given = same(all, input)?;
     tally.lines[usize::from(given.answer.is_err())] += 1;
     tally.seven.count(input, &given);
+    tally.hundredths.count(input, &given);
     Ok(())
 }
 
@@ -127,6 +129,7 @@ struct Tally {
     lines: [u64; 2],
     /// Of both.
     seven: Seven,
+    hundredths: Hundredths,
 }
 
 impl Tally {
@@ -134,6 +137,7 @@ impl Tally {
         let refusal = outcome.answer.as_ref().err().copied().unwrap_or(0);
         self.calls[usize::from(refusal)] += 1;
         self.seven.count(input, outcome);
+        self.hundredths.count(input, outcome);
     }
 
     fn look_at(&mut self, outcome: &Outcome) {
@@ -148,9 +152,10 @@ impl Tally {
         self.longest = self.longest.max(numbers[3]);
     }
 
-    /// Whether refusal 15 was met, the string of a nonterminal, and a restart mark.
+    /// Whether refusal 15 was met, the string of a nonterminal, a restart mark, and unit 1.
     fn is_full(&self) -> bool {
-        self.calls[15] > 0 && self.strings > 0 && self.seven.marked > 0
+        let headers = self.seven.marked > 0 && self.hundredths.accepted > 0;
+        self.calls[15] > 0 && self.strings > 0 && headers
     }
 
     fn print(&self) {
@@ -166,5 +171,6 @@ impl Tally {
         println!("{:>16} {}", "printed", self.lines[0]);
         println!("{:>16} {}", "printed refused", self.lines[1]);
         self.seven.print(16, false);
+        self.hundredths.print(16, false);
     }
 }

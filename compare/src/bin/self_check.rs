@@ -2,11 +2,12 @@
 //!
 //! `self_check SEED COUNT [FIRST]` runs inputs FIRST (0 if not given) to FIRST + COUNT - 1.
 //! At the first difference it prints a reproducer and exits with 1; it also exits with 1 when
-//! some refusal was never met, or no report in which a restart mark made a cycle unclean. How far it is goes to
-//! standard error.
+//! some refusal was never met, or no report in which a restart mark made a cycle unclean, or refusal 16 not in reports
+//! and listings alike, behind 10 and before all that it comes before. How far it is goes to standard error.
 
 use compare::differ::{outcome, Outcome};
 use compare::generate::{Input, Source};
+use compare::hundredths::Hundredths;
 use compare::implementations::{self, PLAIN};
 use compare::seven::Seven;
 use std::process::ExitCode;
@@ -57,13 +58,19 @@ fn reproducer(seed: u64, index: u64, input: &Input, other: &str, difference: &st
 /// What the inputs met.
 #[derive(Default)]
 struct Tally {
-    refused: [u64; 13],
+    refused: [u64; 17],
     accepted: u64,
     edited: u64,
     /// Reads, checks, parses, reports, listings.
     kinds: [u64; 5],
     seven: Seven,
+    hundredths: Hundredths,
 }
+
+/// The refusals that the inputs meet.
+const REFUSALS: [usize; 13] = [1, 2, 3, 4, 5, 6, 7, 8, 9, 10, 11, 12, 16];
+/// How wide the names of the counts are.
+const WIDTH: usize = 14;
 
 impl Tally {
     fn count(&mut self, input: &Input, outcome: &Outcome) {
@@ -84,11 +91,13 @@ impl Tally {
         }
         self.edited += u64::from(outcome.has_edits(input));
         self.seven.count(input, outcome);
+        self.hundredths.count(input, outcome);
     }
 
-    /// Whether every refusal was met, and a cycle that a restart mark made unclean.
+    /// Whether every refusal was met, a cycle that a restart mark made unclean, and unit 1 in every case.
     fn is_full(&self) -> bool {
-        !self.refused[1..].contains(&0) && self.seven.unclean > 0
+        let refused = REFUSALS.iter().all(|&number| self.refused[number] > 0);
+        refused && self.seven.unclean > 0 && self.hundredths.is_full()
     }
 
     fn print(&self, seed: u64, first: u64, count: u64) {
@@ -98,17 +107,15 @@ impl Tally {
         );
         let names = ["reads", "checks", "parses", "reports", "listings"];
         for (name, count) in names.iter().zip(self.kinds) {
-            println!("{name:>12} {count}");
+            println!("{name:>WIDTH$} {count}");
         }
-        println!("{:>12} {}", "not refused", self.accepted);
-        println!("{:>12} {}", "with edits", self.edited);
-        for number in 1..=12 {
-            println!(
-                "{:>12} {}",
-                format!("refused {number}"),
-                self.refused[number]
-            );
+        println!("{:>WIDTH$} {}", "not refused", self.accepted);
+        println!("{:>WIDTH$} {}", "with edits", self.edited);
+        for number in REFUSALS {
+            let name = format!("refused {number}");
+            println!("{name:>WIDTH$} {}", self.refused[number]);
         }
-        self.seven.print(12, true);
+        self.seven.print(WIDTH, true);
+        self.hundredths.print(WIDTH, true);
     }
 }

@@ -1,14 +1,16 @@
-//! Compares implementations of request (i) on generated lists of words: what write answers and every
-//! byte of its buffer, and then what read makes of the bytes written.
+//! Compares implementations of requests (i) and (viii) on generated lists of words: what write answers and every
+//! byte of its buffer, and then what read makes of the bytes written, or of the blocks of a list of unit 1.
 //!
 //! `write_check SEED COUNT [FIRST]` runs lists FIRST (0 if not given) to FIRST + COUNT - 1. At the first
-//! difference it prints a reproducer and exits with 1; it also exits with 1 when a refusal or a number
-//! of blocks was never met. How far it is goes to standard error.
+//! difference it prints a reproducer and exits with 1; it also exits with 1 when a refusal, a number of blocks or a
+//! list that tells 16 from another answer was never met. How far it is goes to standard error.
 
 use compare::answer::Prints;
 use compare::differ::{outcome, Outcome};
+use compare::generate::list::bytes_for;
 use compare::generate::{Input, Source};
 use compare::implementations::{self, PLAIN};
+use compare::plain;
 use std::process::ExitCode;
 
 /// What every lent word holds before a read.
@@ -60,13 +62,39 @@ fn hold(all: &[Box<dyn Prints>], input: &Input, tally: &mut Tally) -> Result<(),
         Ok(numbers) => numbers[0] as usize,
         Err(refusal) => {
             tally.refused[usize::from(*refusal)] += 1;
+            tally.look_at(words, bytes.len(), *refusal);
+            if *refusal == 16 {
+                read_back(all, &plain::blocks(words), words, tally)?;
+            }
             return Ok(());
         }
     };
     tally.written[size / 512] += 1;
+    tally.look_at(words, bytes.len(), 0);
     let lent: Vec<u8> = expected.buffers[0].iter().map(|&b| b as u8).collect();
-    // "Reading back the blocks written, into a word buffer long enough, gives the same words."
-    let file = &lent[..size];
+    read_back(all, &lent[..size], words, tally)?;
+    let count = words.len();
+    if bytes.len() > size {
+        let read = Input::Read {
+            file: lent,
+            words: vec![OLD; count + 300],
+        };
+        let expected = outcome(all[PLAIN].as_ref(), &read);
+        same(all, &read, &expected, "read of the whole buffer")?;
+        tally.more += 1;
+        tally.more_refused += u64::from(expected.answer.is_err());
+    }
+    Ok(())
+}
+
+/// "Reading back the blocks written, into a word buffer long enough, gives the same words." "Old files with unit 1 can
+/// still be read."
+fn read_back(
+    all: &[Box<dyn Prints>],
+    file: &[u8],
+    words: &[u16],
+    tally: &mut Tally,
+) -> Result<(), String> {
     let count = words.len();
     for room in [count, count - 1, count + 1, count + 300] {
         let read = Input::Read {
@@ -76,7 +104,7 @@ fn hold(all: &[Box<dyn Prints>], input: &Input, tally: &mut Tally) -> Result<(),
         let mut back = if room < count {
             Vec::new()
         } else {
-            words.clone()
+            words.to_vec()
         };
         back.resize(room, 0);
         let expected = Outcome {
@@ -88,18 +116,8 @@ fn hold(all: &[Box<dyn Prints>], input: &Input, tally: &mut Tally) -> Result<(),
             buffers: vec![back],
             text: String::new(),
         };
-        same(all, &read, &expected, "read of what was written")?;
+        same(all, &read, &expected, "read of the blocks")?;
         tally.reads += 1;
-    }
-    if bytes.len() > size {
-        let read = Input::Read {
-            file: lent,
-            words: vec![OLD; count + 300],
-        };
-        let expected = outcome(all[PLAIN].as_ref(), &read);
-        same(all, &read, &expected, "read of the whole buffer")?;
-        tally.more += 1;
-        tally.more_refused += u64::from(expected.answer.is_err());
     }
     Ok(())
 }
@@ -124,7 +142,11 @@ fn same(
 /// What the lists met.
 #[derive(Default)]
 struct Tally {
-    refused: [u64; 15],
+    refused: [u64; 17],
+    /// Lists with a 1 as word 5 refused with 13; those refused with 16 where the buffer was too short for 14, and
+    /// where the check accepts the words; lists written whose word 5 is like 1: odd, with 1 as its low byte or its
+    /// high one; and lists of three to seven words written that have a 1 elsewhere.
+    telling: [u64; 5],
     /// Lists written, by their number of blocks.
     written: [u64; 12],
     /// Reads of exactly the bytes written.
@@ -134,10 +156,36 @@ struct Tally {
     more_refused: u64,
 }
 
+/// What is counted of the lists that tell 16 from another answer.
+const TELLING: [&str; 5] = [
+    "13 before 16",
+    "16 before 14",
+    "16 for a grammar",
+    "word 5 like 1",
+    "a 1 elsewhere",
+];
+
 impl Tally {
-    /// Whether both refusals were met, and every number of blocks.
+    /// Counts a list that tells 16 from another answer; `refusal` is 0 where it was written.
+    fn look_at(&mut self, words: &[u16], room: usize, refusal: u16) {
+        let sixth = words.get(5).copied();
+        let like_1 = |word: u16| word != 1 && (word % 2 == 1 || word >> 8 == 1);
+        let is = [
+            refusal == 13 && sixth == Some(1),
+            refusal == 16 && room < bytes_for(words.len()),
+            refusal == 16 && plain::check(words).is_ok(),
+            refusal == 0 && sixth.is_some_and(like_1),
+            refusal == 0 && (3..8).contains(&words.len()) && words.contains(&1),
+        ];
+        for (count, is) in self.telling.iter_mut().zip(is) {
+            *count += u64::from(is);
+        }
+    }
+
+    /// Whether the three refusals were met, every number of blocks, and each list that tells 16.
     fn is_full(&self) -> bool {
-        !self.refused[13..].contains(&0) && !self.written[1..].contains(&0)
+        let refused = [13, 14, 16].iter().all(|&number| self.refused[number] > 0);
+        refused && !self.written[1..].contains(&0) && !self.telling.contains(&0)
     }
 
     fn print(&self) {
@@ -151,9 +199,12 @@ impl Tally {
             self.written.iter().sum::<u64>()
         );
         println!("{:>16} {blocks}", "blocks written");
-        for number in [13, 14] {
+        for number in [13, 14, 16] {
             let name = format!("refused {number}");
             println!("{name:>16} {}", self.refused[number]);
+        }
+        for (name, count) in TELLING.iter().zip(self.telling) {
+            println!("{name:>16} {count}");
         }
         println!("{:>16} {}", "read back", self.reads);
         println!(

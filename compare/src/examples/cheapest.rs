@@ -2,7 +2,7 @@
 //! hand.
 
 use crate::answer::{Implementation, Refusal};
-use crate::generate::families::{bench_g, bench_h};
+use crate::generate::families::{bench_g, bench_g1, bench_h};
 use crate::generate::Draft;
 
 /// A grammar, the lengths of the two buffers, and what is expected of the desk.
@@ -101,6 +101,8 @@ pub fn all() -> Vec<Cheapest> {
     }
     // 65 is a 1 and a 3, 20 + 4.
     examples.push(given("H", &bench_h(), &[0, 24, 0], &[2, 3, 6]));
+    // The desk knows nothing of the unit.
+    examples.push(given("G1", &bench_g1(), &[0, 32, 8, 0], &[1, 2, 3, 5]));
     examples
 }
 

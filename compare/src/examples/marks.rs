@@ -9,7 +9,7 @@ use super::cheapest::eights;
 use super::empty_parts::reliable;
 use super::{DELETE, INSERT};
 use crate::answer::{Marked, Parsed, Prints, Refusal};
-use crate::generate::families::{bench_g, bench_h};
+use crate::generate::families::{bench_g, bench_g1, bench_h};
 use crate::generate::Draft;
 
 /// A log, the lengths of the three buffers, and what is expected.
@@ -193,6 +193,15 @@ pub fn all() -> Vec<Marks> {
         refused("a token 7", &g, &[1, 7], (0, 0), 10),
         restarted(),
         refused("H, a token 5", &bench_h(), &[1, 5], (0, 0), 10),
+        // G1 of request (viii): nothing is timed here.
+        given(
+            "G1",
+            &bench_g1(),
+            &[1, 2, 4],
+            (10, &[0, 2, 3]),
+            &case_3,
+            &full,
+        ),
     ]);
     examples
 }

@@ -13,7 +13,12 @@ pub struct Writing {
     pub answer: Result<Vec<(usize, u16)>, Refusal>,
 }
 
-fn written(name: &'static str, words: &[u16], room: usize, blocks: &[(usize, u16)]) -> Writing {
+pub(super) fn written(
+    name: &'static str,
+    words: &[u16],
+    room: usize,
+    blocks: &[(usize, u16)],
+) -> Writing {
     Writing {
         name,
         words: words.to_vec(),
@@ -92,8 +97,16 @@ impl Writing {
 
 /// Runs all examples on an implementation, and tells what differs from the request.
 pub fn failures(implementation: &dyn Implementation) -> Vec<String> {
+    failures_of(all(), implementation)
+}
+
+/// The same for some examples.
+pub(super) fn failures_of(
+    examples: Vec<Writing>,
+    implementation: &dyn Implementation,
+) -> Vec<String> {
     let mut failures = Vec::new();
-    for example in all() {
+    for example in examples {
         let mut expect = |what: &str, good: bool| {
             if !good {
                 failures.push(format!("{}: {what}", example.name));

@@ -1,5 +1,5 @@
-//! Families of grammars that are known by heart: bench grammar G, H with restarts, nested brackets, chains,
-//! and costs around 60,000.
+//! Families of grammars that are known by heart: bench grammar G, G1 with unit 1, H with restarts, nested brackets,
+//! chains, and costs around 60,000.
 
 use super::draft::Draft;
 use super::grammar::weigh;
@@ -18,6 +18,17 @@ pub fn bench_g() -> Draft {
     let mut draft = Draft::new(7, 4, &rules);
     draft.terminals = vec![(0, 0), (20, 60), (3, 9), (5, 15), (4, 40), (3, 2), (3, 2)];
     (draft.opening, draft.closing) = (1, 4);
+    draft
+}
+
+/// G1 of request (viii): G with unit 1, as old files have it.
+pub fn bench_g1() -> Draft {
+    in_hundredths(bench_g())
+}
+
+/// The grammar with unit 1.
+pub fn in_hundredths(mut draft: Draft) -> Draft {
+    draft.unit = 1;
     draft
 }
 

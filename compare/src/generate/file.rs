@@ -33,6 +33,19 @@ pub fn standard_input(words: &[u16], tokens: &[u16], ticks: &[u32]) -> Vec<u8> {
     input
 }
 
+/// Puts another word in place of an old one of the block, and its check; answers whether that was done. It is not where
+/// the old word does not stand there, or where the check is wrong.
+pub fn replace_word(block: &mut [u8], at: usize, old: u16, new: u16) -> bool {
+    let (place, used) = (4 + 2 * at, usize::from(get(block, 2)));
+    let good = usize::from(get(block, 510)) == sum(block);
+    if !good || at >= used || get(block, place) != old {
+        return false;
+    }
+    put(block, place, new);
+    put_check(block);
+    true
+}
+
 /// Damages one field of a file, in a way that may also leave it good.
 pub fn damage(random: &mut Random, file: &mut Vec<u8>) {
     if file.len() < BLOCK {

@@ -2,6 +2,7 @@
 
 use super::draft::Draft;
 use super::random::Random;
+use super::units;
 use crate::plain;
 
 /// A small grammar, accepted or not, without any plan.
@@ -126,7 +127,7 @@ pub fn weigh(random: &mut Random, draft: &mut Draft) {
         }
         _ => (random.word(1, t - 1), random.word(1, t - 1)),
     };
-    draft.unit = random.word(0, 1);
+    draft.unit = units::any(random);
 }
 
 /// One attempt at an accepted grammar: a plan from the last nonterminal up, then repairs.

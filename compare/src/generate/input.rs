@@ -4,7 +4,7 @@ use super::draft::Draft;
 use super::log::{self, Sampler};
 use super::random::Random;
 use super::restarts::{self, Header};
-use super::{buffers, chains, edges, families, file, grammar};
+use super::{buffers, chains, edges, families, file, grammar, units};
 use crate::plain;
 
 /// A call of one part of an implementation. Buffers carry their old content.
@@ -89,17 +89,19 @@ impl Source {
     }
 
     /// Input number `index`; it does not depend on the inputs before it. One in five has a grammar of
-    /// [`chains`]. Lists to be written, grammars for the desk and logs in marks alone are no such inputs:
+    /// [`chains`], and one in 40 gets unit 1. Lists to be written, grammars for the desk and logs in marks alone are no such inputs:
     /// [`Source::write`], [`Source::desk`] and [`Source::marks`] have them, so that the others stay what they
     /// are.
     pub fn input(&self, index: u64) -> Input {
         let header = self.header(index);
         let mut random = Random::at(self.seed.rotate_left(56), index);
-        if random.chance(1, 5) {
+        let mut input = if random.chance(1, 5) {
             self.chained(&mut random, header)
         } else {
             self.unchained(index, header)
-        }
+        };
+        units::put(&mut random, &mut input);
+        input
     }
 
     /// A check, a parse or a report for a grammar of [`chains`], some of them changed at some edge.

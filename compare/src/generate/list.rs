@@ -2,6 +2,7 @@
 
 use super::input::{Input, Source};
 use super::random::Random;
+use super::units;
 
 const BLOCK: usize = 512;
 const USED: usize = 253;
@@ -20,7 +21,10 @@ impl Source {
         // Away from the inputs of the same number.
         let mut random = Random::at(self.seed().rotate_left(32), index);
         let random = &mut random;
-        let words = self.list(random);
+        let mut words = self.list(random);
+        // Draws of its own, so that all other lists are what they were before there was refusal 16.
+        let mut more = Random::at(self.seed().rotate_left(36), index);
+        units::put_in_list(&mut more, &mut words);
         let length = room(random, words.len());
         Input::Write {
             words,

@@ -48,7 +48,7 @@ pub struct Grammar {
     /// Opening and closing mark of a cycle, "or both 0 (no cycles)".
     pub opening: u16,
     pub closing: u16,
-    /// "tick unit: 0 one ms, 1 ten ms".
+    /// "tick unit: 0 one ms, 1 ten ms". By 02 (viii) only old files have unit 1, and no pace comes from them.
     pub unit: u16,
     /// "the restart mark, 1..T-1, or 0 for none"; a header of six words has none.
     pub restart: u16,
@@ -75,7 +75,7 @@ impl Grammar {
         if !(is_mark(opening) && is_mark(closing) || opening == 0 && closing == 0) {
             return None;
         }
-        // Word 5.
+        // Word 5. 02 (viii): "Old files with unit 1 can still be read, checked and parsed": the range stays.
         let unit = within(rest.next()?, 0, 1)?;
         // Word 6, by 02 (vi): "1..T-1, or 0 for none"; it "differs from the opening and closing marks unless
         // it is 0".

@@ -63,8 +63,9 @@ fn answer(input: &[u8]) -> Result<Answer, Refusal> {
     let (words, tokens, ticks) = parts_of(input)?;
     let mut edits = vec![0; LISTING_EDITS];
     let mut rules = vec![0; LISTING_RULES];
-    let parsed = parse(&words, &tokens, &mut edits, &mut rules)?;
+    // 02 (viii): "The printing program gives it too", refusal 16, which comes before 11 and 12: no parse is run first.
     let report = report(&words, &tokens, &ticks, &mut edits, &mut rules)?;
+    let parsed = parse(&words, &tokens, &mut edits, &mut rules)?;
     Ok(Answer {
         tokens: tokens.len(),
         parsed,

@@ -1,5 +1,5 @@
 //! "Pace": the clean cycles of a log, their time, and the mean. Request (vi) of document 02 adds a ground for a
-//! cycle not to be clean.
+//! cycle not to be clean, and request (viii) refusal 16.
 
 use super::check::check;
 use super::grammar::Grammar;
@@ -20,6 +20,12 @@ pub fn report(
     // Refusal 10: "or ticks and tokens differ in number"; "only it has ticks to compare".
     if !is_log(&grammar, tokens) || ticks.len() != tokens.len() {
         return Err(10);
+    }
+    // 02 (viii): "no pace comes from them", old files with unit 1: "a refused pace is a refusal and never an idle
+    // station". "16 from the pace report and the writer for unit 1; in the report after 10 and before 11": no move is
+    // made.
+    if grammar.unit == 1 {
+        return Err(16);
     }
     let parsed = parse(words, tokens, edits, rules)?;
     let records: Vec<Edit> = edits
@@ -77,9 +83,8 @@ fn clean_cycle_times(grammar: &Grammar, tokens: &[u16], ticks: &[u32], edits: &[
         if (a + 1..b).any(restarts) {
             continue;
         }
-        // "Its time is tick b minus tick a modulo 2^32, times ten for unit 1."
-        let time = u64::from(ticks[b].wrapping_sub(ticks[a]));
-        times.push(if grammar.unit == 1 { time * 10 } else { time });
+        // "Its time is tick b minus tick a modulo 2^32." The unit is 0, "one ms".
+        times.push(u64::from(ticks[b].wrapping_sub(ticks[a])));
     }
     times
 }

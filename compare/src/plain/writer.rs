@@ -1,4 +1,5 @@
-//! Request (i) of document 02, "Write grammar files too": refusals 13 and 14 and the blocks written.
+//! Request (i) of document 02, "Write grammar files too": refusals 13 and 14 and the blocks written. Request (viii)
+//! puts refusal 16 between these two.
 
 use crate::answer::{Refusal, MOST_WORDS};
 
@@ -9,11 +10,17 @@ const WORDS_OF_BLOCK: usize = 253;
 /// "Take words and a byte buffer and write the blocks of 01." The answer is the number of bytes that
 /// the blocks take.
 pub fn write(words: &[u16], bytes: &mut [u8]) -> Result<usize, Refusal> {
-    // "Bytes behind the last block become zero", and both refusals "leave it all zeros".
+    // "Bytes behind the last block become zero". 13 and 14 "both leave it all zeros", and so does 16, by 01: after a
+    // refusal "all output buffers become zero over their whole length".
     bytes.fill(0);
     // "13 when there are no words or more than 2,783"
     if words.is_empty() || words.len() > MOST_WORDS {
         return Err(13);
+    }
+    // 02 (viii): "the writer refuses unit 1, that is, six words or more with word 5 equal to 1"; 16 comes "in the
+    // writer after 13 and before 14".
+    if words.len() >= 6 && words[5] == 1 {
+        return Err(16);
     }
     // "then 14 when the byte buffer is too short"
     let file = blocks(words);
@@ -24,9 +31,9 @@ pub fn write(words: &[u16], bytes: &mut [u8]) -> Result<usize, Refusal> {
     Ok(file.len())
 }
 
-/// The file of some words. "Words used, exactly 253 in every block but the last, 1 to 253 there": no
-/// block is empty.
-fn blocks(words: &[u16]) -> Vec<u8> {
+/// The file of some words, which are 1 to 2,783 of any kind: "Old files with unit 1 can still be read." "Words used,
+/// exactly 253 in every block but the last, 1 to 253 there": no block is empty.
+pub fn blocks(words: &[u16]) -> Vec<u8> {
     let mut file = Vec::new();
     for (number, used) in words.chunks(WORDS_OF_BLOCK).enumerate() {
         file.extend(block(number as u16, used));

@@ -28,6 +28,7 @@ pub fn costs() -> Vec<Call> {
     calls.extend(refused::refusals());
     calls.extend(late::all().iter().map(in_room));
     calls.extend(super::restarts::desks());
+    calls.extend(super::units::desks());
     calls
 }
 

@@ -7,11 +7,16 @@ use crate::generate::Random;
 /// Words and the length of the byte buffer.
 pub type Call = (Vec<u16>, usize);
 
-/// The calls that `test_write` stores between the examples and the seeded ones.
-pub fn writes() -> Vec<Call> {
+/// As many words as `test_write` has room for. A check of 16 bits without the modulus, or with another one, shows on
+/// full blocks of large words.
+pub fn any_words() -> Vec<u16> {
     let mut random = Random::new(13);
-    // A check of 16 bits without the modulus, or with another one, shows on full blocks of large words.
-    let words: Vec<u16> = (0..2_816).map(|_| random.word(1, u16::MAX)).collect();
+    (0..2_816).map(|_| random.word(1, u16::MAX)).collect()
+}
+
+/// The calls that `test_write` stores between the examples and the seeded ones, with those of request (viii).
+pub fn writes() -> Vec<Call> {
+    let words = any_words();
     let mut calls = Vec::new();
     // A block more or less: one word less than full blocks, just as many, one more.
     for full in (253..=2_783).step_by(253) {
@@ -49,6 +54,7 @@ pub fn writes() -> Vec<Call> {
     ] {
         calls.push((words[..count].to_vec(), bytes_for(count)));
     }
+    calls.extend(super::units::writes());
     calls
 }
 

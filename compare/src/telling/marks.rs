@@ -10,7 +10,7 @@ pub use inputs::inputs;
 use crate::examples::cheapest::empty_eights;
 use crate::examples::empty_parts::{reliable, two_parts};
 use crate::examples::marks::{either, nested};
-use crate::generate::families::bench_g;
+use crate::generate::families::{bench_g, bench_g1};
 use crate::generate::Draft;
 use crate::telling::grammars::ones;
 
@@ -28,6 +28,7 @@ pub fn calls() -> Vec<Call> {
     calls.extend(refused::rooms());
     calls.extend(refused::refusals());
     calls.extend(super::restarts::marks());
+    calls.extend(super::units::marks());
     calls.extend(long());
     calls
 }
@@ -111,8 +112,6 @@ fn several() -> Draft {
 /// Inserted before another place than r, or behind its token; the symbols of one place in another order; a deleted
 /// token kept, a kept one left out, or taken for an added one of its number; nothing inserted before END.
 fn places() -> Vec<(Draft, Vec<u16>)> {
-    let mut in_hundredths = bench_g();
-    in_hundredths.unit = 1;
     let logs: [&[u16]; 14] = [
         &[1],
         &[1, 2],
@@ -132,7 +131,7 @@ fn places() -> Vec<(Draft, Vec<u16>)> {
     let mut pairs = Vec::new();
     for log in logs {
         pairs.push((bench_g(), log.to_vec()));
-        pairs.push((in_hundredths.clone(), log.to_vec()));
+        pairs.push((bench_g1(), log.to_vec()));
     }
     let logs: [&[u16]; 9] = [
         &[1, 2],

@@ -40,8 +40,9 @@ fn answer(tables: &mut Tables, input: &[u8]) -> Result<String, Refusal> {
     let (words, tokens, ticks) = parts_of(tables, input)?;
     let mut edits = vec![0; LISTING_EDITS];
     let mut rules = vec![0; LISTING_RULES];
-    let parsed = parse(tables, &words, &tokens, &mut edits, &mut rules)?;
+    // The report first: it gives 16 before 11 and 12.
     let report = super::report(tables, &words, &tokens, &ticks, &mut edits, &mut rules)?;
+    let parsed = parse(tables, &words, &tokens, &mut edits, &mut rules)?;
 
     let mut lines = vec![format!(
         "ok tokens {} moves {} edits {} rules {}",

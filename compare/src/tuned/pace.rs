@@ -1,6 +1,6 @@
-//! The pace report: one pass over the log beside its edits.
+//! The pace report, refusal 16 among its others: one pass over the log beside its edits.
 
-use super::parse::{clear_behind, run};
+use super::parse::{clear_behind, is_log, run};
 use super::tables::Tables;
 use crate::answer::{Pace, Refusal, Report};
 
@@ -16,16 +16,18 @@ pub fn report(
     rules: &mut [u16],
 ) -> Result<Report, Refusal> {
     let answer = tables.check(words).and_then(|()| {
-        if ticks.len() == tokens.len() {
-            run(tables, tokens, edits, rules)
-        } else {
+        if ticks.len() != tokens.len() {
             Err(10)
+        } else if tables.unit == 1 {
+            // Nothing is timed in ten ms, and nothing is moved for it.
+            Err(if is_log(tables, tokens) { 16 } else { 10 })
+        } else {
+            run(tables, tokens, edits, rules)
         }
     });
     clear_behind(&answer, edits, rules);
     let records = 3 * answer?.edits as usize;
-    let (cycles, sum) = cycles(tables, tokens, ticks, &edits[..records]);
-    let ms = sum * if tables.unit == 1 { 10 } else { 1 };
+    let (cycles, ms) = cycles(tables, tokens, ticks, &edits[..records]);
     let pace = if cycles == 0 {
         Pace::Idle
     } else {

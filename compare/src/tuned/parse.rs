@@ -39,7 +39,7 @@ pub fn run(
     edits: &mut [u16],
     rules: &mut [u16],
 ) -> Result<Parsed, Refusal> {
-    if tokens.len() > MOST_TOKENS || !in_range(tokens, tables.terminals) {
+    if !is_log(tables, tokens) {
         return Err(10);
     }
     tables.entries.clear();
@@ -60,6 +60,11 @@ pub fn run(
         edits: state.records as u64,
         rules: state.listed as u64,
     })
+}
+
+/// Whether tokens are a log of the grammar whose tables these are; else 10 is given.
+pub fn is_log(tables: &Tables, tokens: &[u16]) -> bool {
+    tokens.len() <= MOST_TOKENS && in_range(tokens, tables.terminals)
 }
 
 /// Whether every token is in 1..T-1, without a branch for each.

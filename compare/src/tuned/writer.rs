@@ -1,4 +1,4 @@
-//! The writer of grammar files, refusals 13 and 14.
+//! The writer of grammar files, refusals 13, 16 and 14.
 
 use crate::answer::{Refusal, MOST_WORDS};
 
@@ -7,7 +7,7 @@ const FULL: usize = 253;
 
 /// Writes the file of some words into the lent bytes. A byte is written once, zeros too.
 pub fn write(words: &[u16], bytes: &mut [u8]) -> Result<usize, Refusal> {
-    let answer = size(words.len(), bytes.len());
+    let answer = size(words, bytes.len());
     let Ok(size) = answer else {
         bytes.fill(0);
         return answer;
@@ -21,11 +21,13 @@ pub fn write(words: &[u16], bytes: &mut [u8]) -> Result<usize, Refusal> {
     answer
 }
 
-/// How many bytes so many words take, or why they are not written.
-fn size(words: usize, room: usize) -> Result<usize, Refusal> {
-    let size = BLOCK * words.div_ceil(FULL);
-    if words == 0 || words > MOST_WORDS {
+/// How many bytes the words take, or why they are not written. Word 5 is the unit.
+fn size(words: &[u16], room: usize) -> Result<usize, Refusal> {
+    let size = BLOCK * words.len().div_ceil(FULL);
+    if words.is_empty() || words.len() > MOST_WORDS {
         Err(13)
+    } else if words.get(5) == Some(&1) {
+        Err(16)
     } else if room < size {
         Err(14)
     } else {

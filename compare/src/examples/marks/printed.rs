@@ -2,7 +2,7 @@
 
 use super::{either, nested, with_reliability_of_4};
 use crate::examples::cheapest::eights;
-use crate::generate::families::{bench_g, bench_h};
+use crate::generate::families::{bench_g, bench_g1, bench_h, in_hundredths};
 use crate::generate::file::standard_input;
 use crate::generate::Draft;
 
@@ -54,6 +54,16 @@ pub fn printed() -> Vec<(Vec<u8>, &'static str)> {
         (
             input(&bench_h(), &[1, 1, 4, 3], &[5, 9, 0, 2]),
             "keep 1 5\nadd 3\nkeep 1 9\nkeep 4 0\nkeep 3 2\nmarks 5 added 1\n",
+        ),
+        // G1 of request (viii): ticks are printed as they came, and nothing is timed.
+        (
+            input(&bench_g1(), &[1, 2, 4], &[5, 10, 25]),
+            "keep 1 5\nkeep 2 10\nadd 3\nkeep 4 25\nmarks 4 added 1\n",
+        ),
+        (input(&bench_g1(), &[], &[]), "marks 0 added 0\n"),
+        (
+            input(&in_hundredths(nested()), &[1; 254], &[0; 254]),
+            "refused 11\n",
         ),
     ]
 }

@@ -14,6 +14,7 @@ pub fn inputs() -> Vec<Vec<u8>> {
     inputs.extend(lent());
     inputs.extend(behind());
     inputs.extend(counts());
+    inputs.extend(crate::telling::units::mark_inputs());
     // What the function tells apart, the program does too; buffers of other lengths it does not lend.
     for (words, log, _) in calls() {
         if words.is_empty() || log.len() > 300 {
