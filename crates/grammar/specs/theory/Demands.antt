@@ -18,7 +18,7 @@ use Rattle.grammar.specs.Grammar.{RuleOf, Affordable, EachNonterminal, V
 use Rattle.grammar.specs.Buffers.{filled, cleared}
 use Rattle.grammar.specs.Moves.{Move, Edit, edits, editWords, ruleNumbers, repaired, passed, placed}
 use Rattle.grammar.specs.Run.{Plausible, Hit, Pop, Choice, correcting}
-use Rattle.grammar.specs.Run.{LogFits, Asks, noMore, runConditions, RunOf, countsOf, Parses, Parsed}
+use Rattle.grammar.specs.Run.{LogFits, Asks, only10, noMore, runConditions, RunOf, countsOf, Parses, Parsed}
 use Rattle.grammar.specs.Refusals.{Condition, Outcome, given, refused}
 use Rattle.grammar.specs.File.{fileConditions, fileWords, FileRead}
 use Rattle.grammar.specs.Pace.{Span, Clean, timed, Reported}
@@ -51,16 +51,16 @@ use Rattle.grammar.specs.cases.Bound as Bound
 -- ======== Demand 1: every input gets its answer, each refusal exactly when the table says
 
 -- A refusal is due (`Due`) where its condition fails and every condition before it holds. The lists of conditions stand in the order of
--- their numbers: those of the file, of the grammar, and before the parser's and the report's run.
-pub in-order : (bytes ws log ticks : List ℕ) (room : ℕ)
+-- their numbers: those of the file, of the grammar, before a run whose caller asks something under 10 at most, and before the report's.
+pub in-order : (bytes ws log ticks : List ℕ) (room : ℕ) (P : Type 0)
     → InOrder (fileConditions bytes room)
     × InOrder (grammarConditions ws)
-    × InOrder (runConditions ws log noMore)
+    × InOrder (runConditions ws log (only10 P))
     × InOrder (runConditions ws log (timed (tickUnit ws) log ticks))
-in-order bytes ws log ticks room = (
+in-order bytes ws log ticks room P = (
   Refused.file-in-order bytes room,
   Refused.grammar-in-order ws,
-  Refused.parser-in-order ws log,
+  Refused.only10-in-order P ws log,
   Refused.report-in-order (tickUnit ws) ws log ticks,
 )
 

@@ -2,7 +2,7 @@
 -- order of their numbers, that is "the lowest applicable number".
 use Prim.Native.Nat.{ℕ, _≤_, _<_}
 use mathlib.Core.Path.{_≡_, refl, sym, ap}
-use mathlib.Core.List.{List, [], _∷_}
+use mathlib.Core.List.{List, [], _∷_, _++_}
 use mathlib.Core.Logic.{_↔_, _⊎_, inl, inr}
 use mathlib.Core.Option.{none, some}
 use native.Mathlib.Omega.{arith}
@@ -34,6 +34,18 @@ due-first (c ∷ cs) r (inr f) = inr (f .0, due-first cs r (f .1))
 
 pub lowest-due : (cs : List Condition) (r : Refusal) → Lowest cs (some r) ↔ Due cs r
 lowest-due cs r = (λ l. first-due cs r (l .is), λ d. record { is = due-first cs r d })
+
+-- None of these has refusal r.
+unfoldable pub Without : List Condition → Refusal → Type 0
+Without [] r = Unit {0}
+Without (c ∷ cs) r = (c .refusal ≡ r → ⊥) × Without cs r
+
+-- A refusal that no condition of the first list has is due in the second, where all of the first hold.
+pub due-behind : (cs ds : List Condition) (r : Refusal) → Without cs r → Due (cs ++ ds) r → Held cs × Due ds r
+unfolding Without Due Held
+due-behind [] ds r w d = (tt, d)
+due-behind (c ∷ cs) ds r w (inl f) = absurd (w .0 (f .0))
+due-behind (c ∷ cs) ds r w (inr f) = let rest = due-behind cs ds r (w .1) (f .1) in ((f .0, rest .0), rest .1)
 
 -- ---- By numbers
 

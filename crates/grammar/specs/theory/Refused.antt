@@ -11,15 +11,15 @@ use Rattle.grammar.specs.Moves.{Move, edits, editWords, ruleNumbers}
 use Rattle.grammar.specs.Refusals.{Condition, _unless_, Lowest, numberOf, Outcome, given, refused}
 use Rattle.grammar.specs.File.{fileConditions}
 use Rattle.grammar.specs.Grammar.{grammarConditions}
-use Rattle.grammar.specs.Run.{Asks, noMore, runConditions, Settled, RunOf, Parses, answered, countsOf, left}
+use Rattle.grammar.specs.Run.{Asks, only10, runConditions, Settled, RunOf, Parses, answered, countsOf, left}
 use Rattle.grammar.specs.Pace.{timed, Reports, ReportsBy}
 use Rattle.grammar.specs.declared.Refusal.{Refusal}
 use Rattle.grammar.specs.declared.Refusal.the-variants.{NoRoom, Hundredths}
 use Rattle.grammar.specs.declared.Counts.{Counts}
 use Rattle.grammar.specs.declared.Report.{Report}
-use Rattle.grammar.specs.theory.Answers.{admitted, runs-determined, settled-unique}
+use Rattle.grammar.specs.theory.Answers.{conditionsFrom10, admitted, runs-determined, settled-unique}
 use Rattle.grammar.specs.theory.Conditions.{Held, lowest-unique}
-use Rattle.grammar.specs.theory.Due.{Above, Due, InOrder, lowest-due, lowest-held}
+use Rattle.grammar.specs.theory.Due.{Above, Due, InOrder, Without, due-behind, lowest-due, lowest-held}
 use Rattle.grammar.specs.theory.Outcomes.{given-refused, given-same, refused-same}
 
 -- ---- The conditions stand in the order of their numbers
@@ -38,9 +38,9 @@ unfolding Above
 run-in-order ws log Asked behind =
     (omega arith, (omega arith, (omega arith, (omega arith, (omega arith, (omega arith, behind))))))
 
-pub parser-in-order : (ws log : List ℕ) → InOrder (runConditions ws log noMore)
+pub only10-in-order : (P : Type 0) (ws log : List ℕ) → InOrder (runConditions ws log (only10 P))
 unfolding Above
-parser-in-order ws log = run-in-order ws log noMore tt
+only10-in-order P ws log = run-in-order ws log (only10 P) tt
 
 pub report-in-order : (unit : ℕ) (ws log ticks : List ℕ) → InOrder (runConditions ws log (timed unit log ticks))
 unfolding Above
@@ -76,15 +76,22 @@ unfolding Due
 no-room-timed unit (inl f) = other (omega arith) (sym (f .0))
 no-room-timed unit (inr f) = f .1
 
+-- The conditions of the check have 5 to 9.
+pub grammar-without : (ws : List ℕ) (r : Refusal) → 9 < numberOf r → Without (grammarConditions ws) r
+unfolding Without
+grammar-without ws r l = (
+  other (omega arith),
+  (other (omega arith), (other (omega arith), (other (omega arith), (other (omega arith), tt)))),
+)
+
 pub due-not-room : (ws log : List ℕ) (Asked : Asks) → (Due (Asked .behind-10) NoRoom → ⊥) → Due (runConditions ws log Asked) NoRoom → ⊥
 unfolding Due
-due-not-room ws log Asked behind (inl f) = other (omega arith) (f .0)
-due-not-room ws log Asked behind (inr (h, inl f)) = other (omega arith) (f .0)
-due-not-room ws log Asked behind (inr (h, inr (i, inl f))) = other (omega arith) (f .0)
-due-not-room ws log Asked behind (inr (h, inr (i, inr (j, inl f)))) = other (omega arith) (f .0)
-due-not-room ws log Asked behind (inr (h, inr (i, inr (j, inr (k, inl f))))) = other (omega arith) (f .0)
-due-not-room ws log Asked behind (inr (h, inr (i, inr (j, inr (k, inr (l, inl f)))))) = other (omega arith) (f .0)
-due-not-room ws log Asked behind (inr (h, inr (i, inr (j, inr (k, inr (l, inr (m, d))))))) = behind d
+due-not-room ws log Asked behind d =
+    go (due-behind (grammarConditions ws) (conditionsFrom10 Asked ws log) NoRoom (grammar-without ws NoRoom (omega arith)) d .1)
+  where
+    go : Due (conditionsFrom10 Asked ws log) NoRoom → ⊥
+    go (inl f) = other (omega arith) (f .0)
+    go (inr f) = behind (f .1)
 
 module _ {Asked : Asks} {ws log : List ℕ} {editRoom ruleRoom : ℕ} where
   settled-given : {o : Outcome (List Move)} {r : Refusal} → Settled (runConditions ws log Asked) (RunOf ws log editRoom ruleRoom) o

@@ -10,7 +10,7 @@ use borrow.Author.Tests.{eqb-true, eqb-false}
 use lib.ListN.{length}
 use lib.Dec.{eqb}
 use Rattle.grammar.specs.Words.{tickUnit, UnitOne}
-use Rattle.grammar.specs.Grammar.{Verdict}
+use Rattle.grammar.specs.Grammar.{grammarConditions, Verdict}
 use Rattle.grammar.specs.Buffers.{cleared}
 use Rattle.grammar.specs.Moves.{Move}
 use Rattle.grammar.specs.Refusals.{Outcome, given, refused}
@@ -21,14 +21,14 @@ use Rattle.grammar.specs.declared.Refusal.{Refusal}
 use Rattle.grammar.specs.declared.Refusal.the-variants.{Hundredths}
 use Rattle.grammar.specs.declared.Report.{Report}
 use Rattle.grammar.specs.declared.Counts.{Counts}
-use Rattle.grammar.specs.theory.Answers.{verdict-held, log-held, behind-held, reported-unique}
-use Rattle.grammar.specs.theory.Conditions.{Held, applies, passes, all-met, held-front, some-none}
-use Rattle.grammar.specs.theory.Due.{Due, lowest-held}
+use Rattle.grammar.specs.theory.Answers.{conditionsFrom10, verdict-held, log-held, behind-held, reported-unique}
+use Rattle.grammar.specs.theory.Conditions.{Held, applies, passes, held-front, some-none}
+use Rattle.grammar.specs.theory.Due.{Due, due-behind, lowest-held}
 use Rattle.grammar.specs.theory.Exists.{Ending}
 use Rattle.grammar.specs.theory.Fills.{fills-exactly}
 use Rattle.grammar.specs.theory.Headers.{unit-one}
 use Rattle.grammar.specs.theory.Outcomes.{given-refused}
-use Rattle.grammar.specs.theory.Refused.{Given, other, parses-exactly, reports-refused}
+use Rattle.grammar.specs.theory.Refused.{Given, grammar-without, other, parses-exactly, reports-refused}
 use Rattle.grammar.specs.theory.Sentences.{run-determined, run-exists}
 
 -- A number that is not other than another is it.
@@ -53,15 +53,15 @@ Sixteen ws log ticks = Verdict ws none × LogFits ws log × (length ticks ≡ le
 
 due-sixteen : (ws log ticks : List ℕ) → Due (runConditions ws log (timed (tickUnit ws) log ticks)) Hundredths → Sixteen ws log ticks
 unfolding Due
-due-sixteen ws log ticks (inl f) = absurd (other (omega arith) (f .0))
-due-sixteen ws log ticks (inr (h, inl f)) = absurd (other (omega arith) (f .0))
-due-sixteen ws log ticks (inr (h, inr (i, inl f))) = absurd (other (omega arith) (f .0))
-due-sixteen ws log ticks (inr (h, inr (i, inr (j, inl f)))) = absurd (other (omega arith) (f .0))
-due-sixteen ws log ticks (inr (h, inr (i, inr (j, inr (k, inl f))))) = absurd (other (omega arith) (f .0))
-due-sixteen ws log ticks (inr (h, inr (i, inr (j, inr (k, inr (l, inl f)))))) = absurd (other (omega arith) (f .0))
-due-sixteen ws log ticks (inr (h, inr (i, inr (j, inr (k, inr (l, inr (m, inl f))))))) =
-    (passes h (passes i (passes j (passes k (passes l all-met)))), m .0, m .1, same-unless (tickUnit ws) 1 (f .1))
-due-sixteen ws log ticks (inr (h, inr (i, inr (j, inr (k, inr (l, inr (m, inr f))))))) = absurd (f .1)
+due-sixteen ws log ticks d =
+    let from10 = conditionsFrom10 (timed (tickUnit ws) log ticks) ws log in
+    let rest = due-behind (grammarConditions ws) from10 Hundredths (grammar-without ws Hundredths (omega arith)) d in
+    go (rest .0) (rest .1)
+  where
+    go : Held (grammarConditions ws) → Due (conditionsFrom10 (timed (tickUnit ws) log ticks) ws log) Hundredths → Sixteen ws log ticks
+    go h (inl f) = absurd (other (omega arith) (f .0))
+    go h (inr (m, inl f)) = (lowest-held (grammarConditions ws) .1 h, m .0, m .1, same-unless (tickUnit ws) 1 (f .1))
+    go h (inr (m, inr f)) = absurd (f .1)
 
 given-sixteen : (ws log ticks : List ℕ) {editRoom ruleRoom : ℕ}
     → Given (timed (tickUnit ws) log ticks) ws log editRoom ruleRoom Hundredths → Sixteen ws log ticks
