@@ -14,5 +14,5 @@ same_or a b =
     ]
 
 -- What is below p + 1 is below p, or is p.
-pub below-or-at : (q p : ℕ) → q < p + 1 → (q < p) ⊎ (q ≡ p)
-below-or-at q p h = elim (dec_lt q p) [ yes g ↦ inl g | no g ↦ inr (omega arith) ]
+pub below_or_at : (q p : ℕ) → q < p + 1 → (q < p) ⊎ (q ≡ p)
+below_or_at q p h = elim (dec_lt q p) [ yes g ↦ inl g | no g ↦ inr (omega arith) ]

@@ -1,6 +1,6 @@
 -- What a buffer holds while a loop clears it from a place on: z from there up to i, and else what it held.
---     clearing-begins, clearing-more, clearing-ends    the loop's invariant, begun, kept and used
---     clearing-all, clear_whole                        where the place is the first one
+--     clearing_begins, clearing_more, clearing_ends    the loop's invariant, begun, kept and used
+--     clearing_all, clear_whole                        where the place is the first one
 use Prim.Native.Nat.{ℕ, zero, suc, ◌+◌, ◌-◌, ◌≤◌, ◌<◌}
 use Rattle.std.proofs.Math.Nat.{sub-zero}
 use Rattle.std.proofs.Common.{add-one, arith, sym, ◌∙◌, drop_of_length-le, take-append-drop}
@@ -31,8 +31,8 @@ module _ {A : Type 0} (z : A) where
     pub same : length buffer ≡ length old
     pub holds : buffer ≡ take from old ++ (replicate (i - from) z ++ drop i old)
 
-  pub clearing-begins : (old : List A) (from : ℕ) → Clearing old from old from
-  clearing-begins old from =
+  pub clearing_begins : (old : List A) (from : ℕ) → Clearing old from old from
+  clearing_begins old from =
       let none : 0 ≡ from - from = omega arith in
       record {
         past = omega arith;
@@ -41,10 +41,10 @@ module _ {A : Type 0} (z : A) where
         holds = sym (take-append-drop from old) ∙ ap (λ (n : ℕ). take from old ++ (replicate n z ++ drop from old)) none;
       }
 
-  pub clearing-more : {old buffer : List A} {from i : ℕ} → Clearing old from buffer i → i < length buffer
+  pub clearing_more : {old buffer : List A} {from i : ℕ} → Clearing old from buffer i → i < length buffer
       → Clearing old from (set buffer i z) (i + 1)
   unfolding partly
-  clearing-more {old} {buffer} {from} {i} r l =
+  clearing_more {old} {buffer} {from} {i} r l =
       let n : ℕ = i - from in
       let next : suc n ≡ i + 1 - from = omega (arith, r.past) in
       record {
@@ -57,9 +57,9 @@ module _ {A : Type 0} (z : A) where
             ∙ ap (λ (m : ℕ). take from old ++ (replicate (i + 1 - from) z ++ drop m old)) (sym (add-one i))));
       }
 
-  pub clearing-ends : {old buffer : List A} {from i : ℕ} → Clearing old from buffer i → length buffer ≤ i
+  pub clearing_ends : {old buffer : List A} {from i : ℕ} → Clearing old from buffer i → length buffer ≤ i
       → buffer ≡ take from old ++ replicate (length old - from) z
-  clearing-ends {old} {buffer} {from} {i} r l =
+  clearing_ends {old} {buffer} {from} {i} r l =
       let end : i - from ≡ length old - from = omega (arith, r.most, r.same, r.past) in
       let past : length old ≤ i = omega (arith, r.same) in
       let none : drop i old ≡ [] = drop_of_length-le old past in
@@ -71,5 +71,5 @@ module _ {A : Type 0} (z : A) where
   pub clear_whole : (room : ℕ) {buffer : List A} → buffer ≡ replicate (room - 0) z → buffer ≡ replicate room z
   clear_whole room e = e ∙ ap (λ (n : ℕ). replicate n z) (sub-zero room)
 
-  pub clearing-all : {old buffer : List A} {i : ℕ} → Clearing old 0 buffer i → length buffer ≤ i → buffer ≡ replicate (length old) z
-  clearing-all {old} r l = clear_whole (length old) (clearing-ends r l)
+  pub clearing_all : {old buffer : List A} {i : ℕ} → Clearing old 0 buffer i → length buffer ≤ i → buffer ≡ replicate (length old) z
+  clearing_all {old} r l = clear_whole (length old) (clearing_ends r l)

@@ -1,9 +1,9 @@
 -- What a buffer holds that a list was written into.
---     written_none, written-more     written from a place on, one by one
+--     written_none, written_more     written from a place on, one by one
 --     written_then                   two lists, one behind the other
---     written-length, written_at     the buffer keeps its length, and the list stands there
---     begun-none, begun_more         written from the first cell on
---     drop-zeros                     what is left of zeros is zeros
+--     written_length, written_at     the buffer keeps its length, and the list stands there
+--     begun_none, begun_more         written from the first cell on
+--     drop_zeros                     what is left of zeros is zeros
 use Rattle.std.specs.Prelude.{ℕ, zero, suc, ◌+◌, ◌-◌, ◌≤◌, ◌<◌, ◌≡◌, refl, List, [], ◌∷◌, ◌++◌, length, take, drop, set, get_or, replicate}
 use Rattle.std.proofs.Math.Nat.{sub-zero, zero-sub, suc-sub-suc}
 use Rattle.std.proofs.Common.{arith, sym, ap, ◌∙◌, append_assoc, length-append, length-drop, take-append-drop, drop-cons, take_at, length-take-le, get_or-append-add, drop-drop}
@@ -25,10 +25,10 @@ written_none old at =
     let here : at + 0 ≡ at = omega arith in
     ap (λ (n : ℕ). take at old ++ drop n old) here ∙ take-append-drop at old
 
-pub written-more : (old : List ℕ) (at : ℕ) (new : List ℕ) (v : ℕ) → at + length new < length old
+pub written_more : (old : List ℕ) (at : ℕ) (new : List ℕ) (v : ℕ) → at + length new < length old
     → set (written old at new) (at + length new) v ≡ written old at (new ++ (v ∷ []))
 unfolding written
-written-more old at new v l =
+written_more old at new v l =
     let m : ℕ = at + length new in
     let front : List ℕ = take at old ++ new in
     let size : length front ≡ m = simp length-append (omega (arith, length-take-le at old (omega arith))) in
@@ -60,9 +60,9 @@ written_then old at a b l =
     ∙ (ap (λ (t : List ℕ). take at old ++ t) (sym (append_assoc a b (drop (m + length b) old)))
     ∙ ap (λ (n : ℕ). take at old ++ ((a ++ b) ++ drop n old)) next))))
 
-pub written-length : (old : List ℕ) (at : ℕ) (new : List ℕ) → at + length new ≤ length old → length (written old at new) ≡ length old
+pub written_length : (old : List ℕ) (at : ℕ) (new : List ℕ) → at + length new ≤ length old → length (written old at new) ≡ length old
 unfolding written
-written-length old at new l =
+written_length old at new l =
     simp length-append (omega (arith, length-take-le at old (omega arith), length-drop (at + length new) old))
 
 pub written_at : (old : List ℕ) (at : ℕ) (new : List ℕ) (i : ℕ) → at ≤ length old → i < length new
@@ -73,9 +73,9 @@ written_at old at new i l within =
     ap (λ (n : ℕ). get_or (take at old ++ (new ++ rest)) (n + i) 0) (sym (length-take-le at old l))
     ∙ (get_or-append-add (take at old) (new ++ rest) i 0 ∙ get_or-append new rest 0 i within)
 
-pub begun-none : (old : List ℕ) → begun old [] ≡ old
+pub begun_none : (old : List ℕ) → begun old [] ≡ old
 unfolding begun
-begun-none old = refl
+begun_none old = refl
 
 pub begun_more : (old front new : List ℕ) → written (begun old front) (length front) new ≡ begun old (front ++ new)
 unfolding written begun
@@ -85,8 +85,8 @@ begun_more old front new =
 zeros : ℕ → List ℕ
 zeros n = replicate n 0
 
-pub drop-zeros : (n room : ℕ) → ◌≡◌ {A = List ℕ} (drop n (replicate room 0)) (replicate (room - n) 0)
+pub drop_zeros : (n room : ℕ) → ◌≡◌ {A = List ℕ} (drop n (replicate room 0)) (replicate (room - n) 0)
 unfolding zeros
-drop-zeros zero room = ap zeros (sym (sub-zero room))
-drop-zeros (suc n) zero = ap zeros (sym (zero-sub (suc n)))
-drop-zeros (suc n) (suc room) = drop-zeros n room ∙ ap zeros (sym (suc-sub-suc room n))
+drop_zeros zero room = ap zeros (sym (sub-zero room))
+drop_zeros (suc n) zero = ap zeros (sym (zero-sub (suc n)))
+drop_zeros (suc n) (suc room) = drop_zeros n room ∙ ap zeros (sym (suc-sub-suc room n))

@@ -1,7 +1,7 @@
 // The form of a block of the grammar file, which reader and writer share: document 01, "The grammar file". A block's number stands in
 // its first two bytes.
 ghost use Rattle.std.specs.Prelude.{◌≡◌, ◌+◌, ◌*◌, ◌%◌, ◌≤◌, ◌<◌, length};
-ghost use Rattle.grammar.specs.File.{weightedSum};
+ghost use Rattle.grammar.specs.File.{weighted_sum};
 
 pub const BLOCK_BYTES: usize = 512;
 
@@ -22,7 +22,7 @@ const MODULUS: u32 = 65521;
 pub fn check_of(bytes: &[u8], start: usize, size: usize) -> u16
     requires size_bound { size ≤ 510 }
     requires size_in_bounds { start + size ≤ length bytes.now }
-    ensures { result ≡ weightedSum bytes.now start size % 65521 }
+    ensures { result ≡ weighted_sum bytes.now start size % 65521 }
 {
     (weighted_sum(bytes, start, size) % MODULUS) as u16
 }
@@ -31,7 +31,7 @@ pub fn check_of(bytes: &[u8], start: usize, size: usize) -> u16
 fn weighted_sum(bytes: &[u8], start: usize, size: usize) -> u32
     requires size_bound { size ≤ 510 }
     requires size_in_bounds { start + size ≤ length bytes.now }
-    ensures { result ≡ weightedSum bytes.now start size }
+    ensures { result ≡ weighted_sum bytes.now start size }
 {
     let mut sum: u32 = 0;
     let mut i = 0;

@@ -5,18 +5,18 @@ use Rattle.std.proofs.Common.{◌∙◌, arith}
 use mathlib.Core.List.{List, ◌++◌, append_assoc}
 use Rattle.std.proofs.Math.ListN.{length, get_or, take}
 use Rattle.grammar.specs.Run.{Hit, deletes, pops}
-use Rattle.grammar.specs.theory.Folds.{missingOf}
-use Rattle.grammar.specs.theory.Tables.{Sized}
+use Rattle.grammar.specs.Theory.Folds.{missing_of}
+use Rattle.grammar.specs.Theory.Tables.{Sized}
 use Rattle.moves.specs.States.{CanCount}
-use Rattle.moves.specs.Pile.{pile, pile-length}
+use Rattle.moves.specs.Pile.{pile, pile_length}
 use Rattle.moves.specs.declared.Parser.{Parser}
-use Rattle.correction.specs.Tokens.{rest_of, rest-token}
-use Rattle.correction.specs.Symbols.{symbol-small, pile-cell}
+use Rattle.correction.specs.Tokens.{rest_of, rest_token}
+use Rattle.correction.specs.Symbols.{symbol_small, pile_cell}
 use Rattle.correction.specs.Searching.{CanSearch, Used, SearchOf, all_take}
-use Rattle.correction.specs.Records.{CanRecord, words_of, words-moves}
-use Rattle.correction.specs.Popping.{CanPop, PoppedOf, topmost, recordsOf, popWords, pops-popped}
+use Rattle.correction.specs.Records.{CanRecord, words_of, words_moves}
+use Rattle.correction.specs.Popping.{CanPop, PoppedOf, topmost, records_of, pop_words, pops_popped}
 use Rattle.correction.specs.Corrections.{CanCorrect, Correction, CorrectedOf}
-use Rattle.correction.specs.Deleting.{Deleted, rest-length}
+use Rattle.correction.specs.Deleting.{Deleted, rest_length}
 use Rattle.correction.specs.declared.Search.{Search}
 use Rattle.correction.specs.declared.Search.TheVariants as search
 use Rattle.correction.specs.declared.Corrected.TheVariants.{On, Full}
@@ -24,27 +24,27 @@ use Rattle.correction.specs.declared.Corrected.TheVariants.{On, Full}
 module _ {S : Sized} {log masks prices stack : List ℕ} {p : Parser} (can : CanCorrect S log masks prices stack p) where
   -- ---- The hit
 
-  hit-told : {σ : List ℕ} {t r q i : ℕ} {found : Search} → SearchOf S σ t r found → found ≡ search.Hit q i → (q ≡ r) × Used S σ t i
+  hit_told : {σ : List ℕ} {t r q i : ℕ} {found : Search} → SearchOf S σ t r found → found ≡ search.Hit q i → (q ≡ r) × Used S σ t i
   unfolding SearchOf
-  hit-told {σ} {t} {r} s f = subst (λ x. SearchOf S σ t r x) f s
+  hit_told {σ} {t} {r} s f = subst (λ x. SearchOf S σ t r x) f s
 
   pub correction : {before after : List ℕ} {q : Parser} (d : Deleted S log stack before p q after) (r i : ℕ) {found : Search}
       → SearchOf S (pile stack q.height) (get_or log q.place 0) q.place found → found ≡ search.Hit r i
       → Hit S.grammar (pile stack p.height) (rest_of log p.place) d.deleted i
   unfolding SearchOf
   correction {before} {after} {q} d r i s₀ f =
-      let s = hit-told s₀ f in
+      let s = hit_told s₀ f in
       let j = d.deleted in
       let σ = pile stack p.height in
       let ρ = rest_of log p.place in
-      let token : get_or log q.place 0 ≡ get_or ρ j 0 = ap (λ k. get_or log k 0) d.place ∙ sym (rest-token log p.place j) in
+      let token : get_or log q.place 0 ≡ get_or ρ j 0 = ap (λ k. get_or log k 0) d.place ∙ sym (rest_token log p.place j) in
       let used : Used S σ (get_or ρ j 0) i =
       subst (λ t. Used S σ t i) token (subst (λ h. Used S (pile stack h) (get_or log q.place 0) i) d.height s.1) in
       record {
-        within = omega (arith, rest-length log p.place can.place, d.place, d.within);
+        within = omega (arith, rest_length log p.place can.place, d.place, d.within);
         plausible = used.plausible;
-        least-r = d.none;
-        least-i = used.least;
+        least_r = d.none;
+        least_i = used.least;
       }
 
   -- The correction that the hit is, with what the tables make of the symbols popped.
@@ -58,29 +58,29 @@ module _ {S : Sized} {log masks prices stack : List ℕ} {p : Parser} (can : Can
         popped = i;
         becomes = topmost masks σ i;
         hit = correction d r i s f;
-        pops = pops-popped can.search.known (all_take i can.search.symbols);
+        pops = pops_popped can.search.known (all_take i can.search.symbols);
       }
 
   module _ {before mid after : List ℕ} {q u : Parser} (d : Deleted S log stack before p q mid) (r i : ℕ) {found : Search}
       (s : SearchOf S (pile stack q.height) (get_or log q.place 0) q.place found) (f : found ≡ search.Hit r i)
       (w : PoppedOf masks stack mid q r i u after) where
     -- The stack popped from is the one that was searched.
-    same-records : recordsOf masks (pile stack q.height) i ≡ length (missingOf (topmost masks (pile stack p.height) i))
-    unfolding recordsOf
-    same-records = ap (λ h. length (missingOf (topmost masks (pile stack h) i))) d.height
+    same_records : records_of masks (pile stack q.height) i ≡ length (missing_of (topmost masks (pile stack p.height) i))
+    unfolding records_of
+    same_records = ap (λ h. length (missing_of (topmost masks (pile stack h) i))) d.height
 
-    pub corrected-full : length after < 3 * u.records → CorrectedOf S log stack before p after Full
+    pub corrected_full : length after < 3 * u.records → CorrectedOf S log stack before p after Full
     unfolding CorrectedOf corrects
-    corrected-full l = (corrects d r i s f, omega (arith, same-records, w.records, w.size, d.records, d.size))
+    corrected_full l = (corrects d r i s f, omega (arith, same_records, w.records, w.size, d.records, d.size))
 
-    pub corrected-on : 3 * u.records ≤ length after → CorrectedOf S log stack before p after (On u)
-    unfolding CorrectedOf corrects popWords
-    corrected-on l =
+    pub corrected_on : 3 * u.records ≤ length after → CorrectedOf S log stack before p after (On u)
+    unfolding CorrectedOf corrects pop_words
+    corrected_on l =
         let j = d.deleted in
         let ps = topmost masks (pile stack p.height) i in
         let dels = deletes p.place (take j (rest_of log p.place)) in
         let front = take (3 * p.records) before in
-        let at-r : r ≡ p.place + j = (hit-told s f).0 ∙ d.place in
+        let at-r : r ≡ p.place + j = (hit_told s f).0 ∙ d.place in
         let old : take (3 * q.records) mid ≡ front ++ words_of dels =
         ap (λ k. take (3 * k) mid) d.records ∙ d.front (omega (arith, w.records, w.size, d.records, d.size)) in (
           corrects d r i s f,
@@ -88,7 +88,7 @@ module _ {S : Sized} {log masks prices stack : List ℕ} {p : Parser} (can : Can
             place = w.place ∙ d.place;
             height = w.height ∙ d.height;
             moves = omega (arith, w.moves, d.moves);
-            records = omega (arith, same-records, w.records, d.records);
+            records = omega (arith, same_records, w.records, d.records);
             listed = w.listed ∙ d.listed;
             size = w.size ∙ d.size;
             fits = omega (arith, w.size, d.size);
@@ -98,25 +98,25 @@ module _ {S : Sized} {log masks prices stack : List ℕ} {p : Parser} (can : Can
                 ∙ ap (λ h. (front ++ words_of dels) ++ words_of (pops r (topmost masks (pile stack h) i))) d.height
                 ∙ ap (λ k. (front ++ words_of dels) ++ words_of (pops k ps)) at-r
                 ∙ append_assoc front (words_of dels) (words_of (pops (p.place + j) ps))
-                ∙ ap (λ t. front ++ t) (sym (words-moves dels (pops (p.place + j) ps)));
+                ∙ ap (λ t. front ++ t) (sym (words_moves dels (pops (p.place + j) ps)));
           },
         )
 
   -- ---- What the calls need
 
-  pub seek-can : {before after : List ℕ} {q : Parser} → Deleted S log stack before p q after
+  pub seek_can : {before after : List ℕ} {q : Parser} → Deleted S log stack before p q after
       → CanSearch S log masks prices stack q.height
-  seek-can d = subst (λ h. CanSearch S log masks prices stack h) (sym d.height) can.search
+  seek_can d = subst (λ h. CanSearch S log masks prices stack h) (sym d.height) can.search
 
-  pub record-can : {before after : List ℕ} {q : Parser} → Deleted S log stack before p q after → CanRecord q.records q.place
-  record-can d =
+  pub record_can : {before after : List ℕ} {q : Parser} → Deleted S log stack before p q after → CanRecord q.records q.place
+  record_can d =
       record {
         count = omega (arith, d.records, d.place, d.within, can.count);
-        place-fits = omega (arith, d.within, can.search.known.short);
+        place_fits = omega (arith, d.within, can.search.known.short);
       }
 
-  pub delete-can : {before after : List ℕ} {q : Parser} → Deleted S log stack before p q after → CanCount q
-  delete-can d =
+  pub delete_can : {before after : List ℕ} {q : Parser} → Deleted S log stack before p q after → CanCount q
+  delete_can d =
       record {
         place = omega (arith, d.within, can.search.known.short);
         height = omega (arith, d.height, can.counts.height);
@@ -125,18 +125,18 @@ module _ {S : Sized} {log masks prices stack : List ℕ} {p : Parser} (can : Can
         listed = omega (arith, d.listed, can.counts.listed);
       }
 
-  pub pop-can : {before after : List ℕ} {q : Parser} (d : Deleted S log stack before p q after) (r i : ℕ) {found : Search}
+  pub pop_can : {before after : List ℕ} {q : Parser} (d : Deleted S log stack before p q after) (r i : ℕ) {found : Search}
       → SearchOf S (pile stack q.height) (get_or log q.place 0) q.place found → found ≡ search.Hit r i → CanPop masks stack q r i
-  pop-can {q = q} d r i s f =
-      let low : i < p.height = omega (arith, (correction d r i s f).plausible.within, pile-length stack p.height) in
+  pop_can {q = q} d r i s f =
+      let low : i < p.height = omega (arith, (correction d r i s f).plausible.within, pile_length stack p.height) in
       record {
-        table = omega (arith, can.search.known.shared.sets-size);
+        table = omega (arith, can.search.known.shared.sets_size);
         symbols = λ k l.
-            symbol-small can.search.known (pile-cell stack p.height can.search.symbols k (omega (arith, d.height)));
+            symbol_small can.search.known (pile_cell stack p.height can.search.symbols k (omega (arith, d.height)));
         cells = omega (arith, d.height, can.search.cells);
         within = omega (arith, d.height);
-        place-fits = omega (arith, (hit-told s f).0, d.within, can.search.known.short);
+        place_fits = omega (arith, (hit_told s f).0, d.within, can.search.known.short);
         room = omega (arith, d.moves, d.place, d.within, can.room);
         count = omega (arith, d.records, d.place, d.within, can.count);
-        counts = delete-can d;
+        counts = delete_can d;
       }

@@ -3,8 +3,8 @@
 use Rattle.std.specs.Prelude.{ℕ, ◌+◌, ◌*◌, ◌≤◌, ◌<◌, ◌^◌, ◌≡◌, List, ◌++◌, length, get_or, take}
 use Rattle.grammar.specs.Words.{END}
 use Rattle.grammar.specs.Run.{Hit, Pop, Popped, deletes, pops}
-use Rattle.grammar.specs.theory.Folds.{missingOf}
-use Rattle.grammar.specs.theory.Tables.{Sized}
+use Rattle.grammar.specs.Theory.Folds.{missing_of}
+use Rattle.grammar.specs.Theory.Tables.{Sized}
 use Rattle.moves.specs.States.{CanCount}
 use Rattle.moves.specs.Pile.{pile}
 use Rattle.moves.specs.declared.Parser.{Parser}
@@ -34,8 +34,8 @@ pub record Correction (S : Sized) (log stack : List ℕ) (p : Parser) : Type 0 w
   pub pops : Popped S.grammar.rules (take popped (pile stack p.height)) becomes
 
 -- Its records: one for each token deleted and each symbol inserted.
-abbrev pub recordCount : {S : Sized} {log stack : List ℕ} {p : Parser} → Correction S log stack p → ℕ
-recordCount c = c.deleted + length (missingOf c.becomes)
+abbrev pub record_count : {S : Sized} {log stack : List ℕ} {p : Parser} → Correction S log stack p → ℕ
+record_count c = c.deleted + length (missing_of c.becomes)
 
 -- Its moves are counted, and its records stand behind those before.
 pub record Made (S : Sized) (log stack before : List ℕ) (p : Parser) (after : List ℕ) (c : Correction S log stack p) (q : Parser)
@@ -43,7 +43,7 @@ pub record Made (S : Sized) (log stack before : List ℕ) (p : Parser) (after : 
   pub place : q.place ≡ p.place + c.deleted
   pub height : q.height + c.popped ≡ p.height
   pub moves : q.moves ≡ p.moves + (c.deleted + c.popped)
-  pub records : q.records ≡ p.records + recordCount c
+  pub records : q.records ≡ p.records + record_count c
   pub listed : q.listed ≡ p.listed
   pub size : length after ≡ length before
   pub fits : 3 * q.records ≤ length before
@@ -54,4 +54,4 @@ pub record Made (S : Sized) (log stack before : List ℕ) (p : Parser) (after : 
 unfoldable pub CorrectedOf : Sized → List ℕ → List ℕ → List ℕ → Parser → List ℕ → Corrected → Type 0
 CorrectedOf S log stack before p after (On q) = (c : Correction S log stack p) × Made S log stack before p after c q
 CorrectedOf S log stack before p after Full =
-    (c : Correction S log stack p) × (length before < 3 * (p.records + recordCount c))
+    (c : Correction S log stack p) × (length before < 3 * (p.records + record_count c))

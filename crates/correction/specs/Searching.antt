@@ -5,14 +5,14 @@ use Rattle.std.proofs.Math.Logic.{⊎_elim}
 use Rattle.grammar.specs.Derivation.{All}
 use Rattle.grammar.specs.Cost.{SymbolCost}
 use Rattle.grammar.specs.Run.{Plausible}
-use Rattle.grammar.specs.theory.Closed.{total}
-use Rattle.grammar.specs.theory.Costing.{list-cost-unique, list-cost-sum}
-use Rattle.grammar.specs.theory.Members.{all-get, all_map}
-use Rattle.grammar.specs.theory.Tables.{Sized, SymbolOf, limitBy}
-use Rattle.moves.specs.Tests.{beginsBy, le-or-lt}
-use Rattle.moves.specs.Pile.{pile, pile-length, pile-at}
-use Rattle.correction.specs.Tokens.{token-high}
-use Rattle.correction.specs.Symbols.{Known, begins-first, first-begins, symbol-small, pile-cell}
+use Rattle.grammar.specs.Theory.Closed.{total}
+use Rattle.grammar.specs.Theory.Costing.{list_cost_unique, list_cost_sum}
+use Rattle.grammar.specs.Theory.Members.{all_get, all_map}
+use Rattle.grammar.specs.Theory.Tables.{Sized, SymbolOf, limit_by}
+use Rattle.moves.specs.Tests.{begins_by, le_or_lt}
+use Rattle.moves.specs.Pile.{pile, pile_length, pile_at}
+use Rattle.correction.specs.Tokens.{token_high}
+use Rattle.correction.specs.Symbols.{Known, begins_first, first_begins, symbol_small, pile_cell}
 use Rattle.correction.specs.declared.Search.{Search}
 use Rattle.correction.specs.declared.Search.TheVariants.{Hit, Nothing}
 
@@ -38,38 +38,38 @@ SearchOf S σ t r Nothing = (k : ℕ) → Plausible S.grammar σ t k → ⊥
 -- ---- Costs of what stands above
 
 -- The cost that the table has.
-abbrev pub costBy : List ℕ → ℕ → ℕ
-costBy prices X = get_or prices X 0
+abbrev pub cost_by : List ℕ → ℕ → ℕ
+cost_by prices X = get_or prices X 0
 
 -- The cost of the i topmost symbols.
 unfoldable pub paid : List ℕ → List ℕ → ℕ → ℕ
-paid prices σ i = total (costBy prices) (take i σ)
+paid prices σ i = total (cost_by prices) (take i σ)
 
-pub paid-none : (prices σ : List ℕ) → paid prices σ 0 ≡ 0
+pub paid_none : (prices σ : List ℕ) → paid prices σ 0 ≡ 0
 unfolding paid total
-paid-none prices σ = refl
+paid_none prices σ = refl
 
-pub paid-more : (prices σ : List ℕ) (i : ℕ) → i < length σ → paid prices σ (i + 1) ≡ paid prices σ i + get_or prices (get_or σ i 0) 0
+pub paid_more : (prices σ : List ℕ) (i : ℕ) → i < length σ → paid prices σ (i + 1) ≡ paid prices σ i + get_or prices (get_or σ i 0) 0
 unfolding paid total
-paid-more prices σ i l = let e : i + 1 ≡ suc i = omega arith in ap (paid prices σ) e ∙ go σ i l
+paid_more prices σ i l = let e : i + 1 ≡ suc i = omega arith in ap (paid prices σ) e ∙ go σ i l
   where
     go : (σ : List ℕ) (i : ℕ) → i < length σ → paid prices σ (suc i) ≡ paid prices σ i + get_or prices (get_or σ i 0) 0
     go [] i l = absurd (omega arith)
     go (X ∷ σ) zero l = omega arith
     go (X ∷ σ) (suc i) l = omega (arith, go σ i (omega arith))
 
-paid-rest : (prices σ : List ℕ) (i k : ℕ) → i ≤ k → paid prices σ i ≤ paid prices σ k
+paid_rest : (prices σ : List ℕ) (i k : ℕ) → i ≤ k → paid prices σ i ≤ paid prices σ k
 unfolding paid total
-paid-rest prices σ zero k l = omega arith
-paid-rest prices σ (suc i) zero l = absurd (omega arith)
-paid-rest prices [] (suc i) (suc k) l = omega arith
-paid-rest prices (X ∷ σ) (suc i) (suc k) l = omega (arith, paid-rest prices σ i k (omega arith))
+paid_rest prices σ zero k l = omega arith
+paid_rest prices σ (suc i) zero l = absurd (omega arith)
+paid_rest prices [] (suc i) (suc k) l = omega arith
+paid_rest prices (X ∷ σ) (suc i) (suc k) l = omega (arith, paid_rest prices σ i k (omega arith))
 
-pub paid-bound : (prices σ : List ℕ) → All (λ X. get_or prices X 0 ≤ 60000) σ → (i : ℕ) → paid prices σ i ≤ 60000 * length σ
+pub paid_bound : (prices σ : List ℕ) → All (λ X. get_or prices X 0 ≤ 60000) σ → (i : ℕ) → paid prices σ i ≤ 60000 * length σ
 unfolding paid total
-paid-bound prices σ a zero = omega arith
-paid-bound prices [] a (suc i) = omega arith
-paid-bound prices (X ∷ σ) (All.also h a) (suc i) = omega (arith, h, paid-bound prices σ a i)
+paid_bound prices σ a zero = omega arith
+paid_bound prices [] a (suc i) = omega arith
+paid_bound prices (X ∷ σ) (All.also h a) (suc i) = omega (arith, h, paid_bound prices σ a i)
 
 pub all_take : {P : ℕ → Type 0} (i : ℕ) {α : List ℕ} → All P α → All P (take i α)
 all_take zero a = All.nothing
@@ -87,69 +87,69 @@ pub record Walked (S : Sized) (prices σ : List ℕ) (t i cost : ℕ) : Type 0 w
 module _ {S : Sized} {log masks prices : List ℕ} (known : Known S log masks prices) (σ : List ℕ) (inner : All (SymbolOf S) σ)
     (low : length σ ≤ 256)
     (t : ℕ) (token : t < S.terminals) where
-  costed : (i : ℕ) → All (λ X. SymbolCost S.grammar.rules S.grammar.price X (costBy prices X)) (take i σ)
+  costed : (i : ℕ) → All (λ X. SymbolCost S.grammar.rules S.grammar.price X (cost_by prices X)) (take i σ)
   costed i = all_take i (all_map known.shared.cost inner)
 
   pub bounded : (i : ℕ) → paid prices σ i ≤ 60000 * length σ
-  bounded i = paid-bound prices σ (all_map known.shared.cost-limit inner) i
+  bounded i = paid_bound prices σ (all_map known.shared.cost_limit inner) i
 
   small : (i : ℕ) → paid prices σ i < 4294967295
   small i = omega (arith, bounded i)
 
   -- A symbol that begins with t, at a cost below its reliability: a correction can use t.
-  pub usable : (i : ℕ) → i < length σ → beginsBy masks (get_or σ i 0) t ≡ true → paid prices σ i < limitBy prices t
+  pub usable : (i : ℕ) → i < length σ → begins_by masks (get_or σ i 0) t ≡ true → paid prices σ i < limit_by prices t
       → Plausible S.grammar σ t i
   unfolding paid
   usable i l b m =
       record {
         within = l;
-        first = begins-first known (get_or σ i 0) t (all-get inner i l) (omega (arith, token, known.terminals-high)) b;
-        cost = total (costBy prices) (take i σ);
-        costs = list-cost-sum S.grammar.rules S.grammar.price (costBy prices) (costed i);
+        first = begins_first known (get_or σ i 0) t (all_get inner i l) (omega (arith, token, known.terminals_high)) b;
+        cost = total (cost_by prices) (take i σ);
+        costs = list_cost_sum S.grammar.rules S.grammar.price (cost_by prices) (costed i);
         below = (known.shared.limit t token (paid prices σ i) (small i)).0 m;
       }
 
   -- No symbol suits that does not begin with t,
-  pub not-begun : (i : ℕ) → beginsBy masks (get_or σ i 0) t ≡ false → Plausible S.grammar σ t i → ⊥
-  not-begun i b p = true≢false (sym (first-begins known (get_or σ i 0) t (all-get inner i p.within) p.first) ∙ b)
+  pub not_begun : (i : ℕ) → begins_by masks (get_or σ i 0) t ≡ false → Plausible S.grammar σ t i → ⊥
+  not_begun i b p = true≢false (sym (first_begins known (get_or σ i 0) t (all_get inner i p.within) p.first) ∙ b)
 
   -- and none below a cost that is too high.
-  pub too-dear : (i k : ℕ) → limitBy prices t ≤ paid prices σ i → i ≤ k → Plausible S.grammar σ t k → ⊥
+  pub too_dear : (i k : ℕ) → limit_by prices t ≤ paid prices σ i → i ≤ k → Plausible S.grammar σ t k → ⊥
   unfolding paid
-  too-dear i k m l p =
-      let sum = list-cost-sum S.grammar.rules S.grammar.price (costBy prices) (costed k) in
-      let e = list-cost-unique S.grammar.rules S.grammar.price p.costs sum in
+  too_dear i k m l p =
+      let sum = list_cost_sum S.grammar.rules S.grammar.price (cost_by prices) (costed k) in
+      let e = list_cost_unique S.grammar.rules S.grammar.price p.costs sum in
       let h = (known.shared.limit t token (paid prices σ k) (small k)).1 (subst (λ c. S.grammar.reliable c t) e p.below) in
-      omega (arith, paid-rest prices σ i k l)
+      omega (arith, paid_rest prices σ i k l)
 
   -- ---- The walk, symbol by symbol
 
   pub walked_none : Walked S prices σ t 0 0
-  walked_none = record { within = omega arith; pays = sym (paid-none prices σ); none = λ k l p. omega arith }
+  walked_none = record { within = omega arith; pays = sym (paid_none prices σ); none = λ k l p. omega arith }
 
-  pub walked_more : (i cost : ℕ) → i < length σ → beginsBy masks (get_or σ i 0) t ≡ false → Walked S prices σ t i cost
+  pub walked_more : (i cost : ℕ) → i < length σ → begins_by masks (get_or σ i 0) t ≡ false → Walked S prices σ t i cost
       → Walked S prices σ t (i + 1) (cost + get_or prices (get_or σ i 0) 0)
   walked_more i cost l b w =
       record {
         within = omega arith;
-        pays = omega (arith, paid-more prices σ i l, w.pays);
+        pays = omega (arith, paid_more prices σ i l, w.pays);
         none = λ k m p.
             ⊎_elim
-            (λ h. let e : k ≡ i = omega arith in not-begun i b (subst (λ j. Plausible S.grammar σ t j) e p))
+            (λ h. let e : k ≡ i = omega arith in not_begun i b (subst (λ j. Plausible S.grammar σ t j) e p))
             (λ h. w.none k h p)
-            (le-or-lt i k);
+            (le_or_lt i k);
       }
 
-  pub walked-hit : (r i cost : ℕ) → i < length σ → beginsBy masks (get_or σ i 0) t ≡ true → cost < limitBy prices t
+  pub walked_hit : (r i cost : ℕ) → i < length σ → begins_by masks (get_or σ i 0) t ≡ true → cost < limit_by prices t
       → Walked S prices σ t i cost
       → SearchOf S σ t r (Hit r i)
   unfolding SearchOf
-  walked-hit r i cost l b m w = (refl, record { plausible = usable i l b (omega (arith, w.pays)); least = w.none })
+  walked_hit r i cost l b m w = (refl, record { plausible = usable i l b (omega (arith, w.pays)); least = w.none })
 
-  pub walked-dear : (r i cost : ℕ) → limitBy prices t ≤ cost → Walked S prices σ t i cost → SearchOf S σ t r Nothing
+  pub walked_dear : (r i cost : ℕ) → limit_by prices t ≤ cost → Walked S prices σ t i cost → SearchOf S σ t r Nothing
   unfolding SearchOf
-  walked-dear r i cost m w =
-      λ k p. ⊎_elim (λ l. too-dear i k (omega (arith, w.pays)) l p) (λ l. w.none k l p) (le-or-lt i k)
+  walked_dear r i cost m w =
+      λ k p. ⊎_elim (λ l. too_dear i k (omega (arith, w.pays)) l p) (λ l. w.none k l p) (le_or_lt i k)
 
   pub walked_all : (r i cost : ℕ) → length σ ≤ i → Walked S prices σ t i cost → SearchOf S σ t r Nothing
   unfolding SearchOf
@@ -160,72 +160,72 @@ module _ {S : Sized} {log masks prices : List ℕ} (known : Known S log masks pr
 module _ {S : Sized} {log masks prices stack : List ℕ} {height : ℕ} (can : CanSearch S log masks prices stack height) (r t : ℕ)
     (at-r : t ≡ get_or log r 0) where
   short : length (pile stack height) ≤ 256
-  short = omega (arith, pile-length stack height, can.low)
+  short = omega (arith, pile_length stack height, can.low)
 
-  pub token-low : t < S.terminals
-  token-low = omega (arith, at-r, token-high log can.known.terminals-low can.known.tokens r)
+  pub token_low : t < S.terminals
+  token_low = omega (arith, at-r, token_high log can.known.terminals_low can.known.tokens r)
 
-  pub token-below : t < 64
-  token-below = omega (arith, token-low, can.known.terminals-high)
+  pub token_below : t < 64
+  token_below = omega (arith, token_low, can.known.terminals_high)
 
   cell : (i : ℕ) → i < height → get_or (pile stack height) i 0 ≡ get_or stack (height - 1 - i) 0
-  cell i l = pile-at stack height i l ∙ ap (λ k. get_or stack k 0) (omega arith)
+  cell i l = pile_at stack height i l ∙ ap (λ k. get_or stack k 0) (omega arith)
 
-  symbol-of : (i : ℕ) → i < height → SymbolOf S (get_or stack (height - 1 - i) 0)
-  symbol-of i l = pile-cell stack height can.symbols (height - 1 - i) (omega arith)
+  symbol_of_lem : (i : ℕ) → i < height → SymbolOf S (get_or stack (height - 1 - i) 0)
+  symbol_of_lem i l = pile_cell stack height can.symbols (height - 1 - i) (omega arith)
 
   pub symbol_low : (i : ℕ) → i < height → get_or stack (height - 1 - i) 0 < 128
-  symbol_low i l = symbol-small can.known (symbol-of i l)
+  symbol_low i l = symbol_small can.known (symbol_of_lem i l)
 
-  pub seek-none : Walked S prices (pile stack height) t 0 0
-  seek-none = walked_none can.known (pile stack height) can.symbols short t token-low
+  pub seek_none : Walked S prices (pile stack height) t 0 0
+  seek_none = walked_none can.known (pile stack height) can.symbols short t token_low
 
-  pub seek-more : (i cost x : ℕ) {b : Bool} → i < height → b ≡ beginsBy masks (get_or stack (height - 1 - i) 0) t → b ≡ false
+  pub seek_more : (i cost x : ℕ) {b : Bool} → i < height → b ≡ begins_by masks (get_or stack (height - 1 - i) 0) t → b ≡ false
       → x ≡ get_or stack (height - 1 - i) 0 → Walked S prices (pile stack height) t i cost
       → Walked S prices (pile stack height) t (i + 1) (cost + get_or prices x 0)
-  seek-more i cost x l e n q w =
+  seek_more i cost x l e n q w =
       subst (λ y. Walked S prices (pile stack height) t (i + 1) (cost + get_or prices y 0)) (cell i l ∙ sym q)
-      (walked_more can.known (pile stack height) can.symbols short t token-low i cost
-      (omega (arith, pile-length stack height))
-      (ap (λ y. beginsBy masks y t) (cell i l) ∙ sym e ∙ n)
+      (walked_more can.known (pile stack height) can.symbols short t token_low i cost
+      (omega (arith, pile_length stack height))
+      (ap (λ y. begins_by masks y t) (cell i l) ∙ sym e ∙ n)
       w)
 
-  pub seek-fits : (i cost x : ℕ) → i < height → x ≡ get_or stack (height - 1 - i) 0 → Walked S prices (pile stack height) t i cost
+  pub seek_fits : (i cost x : ℕ) → i < height → x ≡ get_or stack (height - 1 - i) 0 → Walked S prices (pile stack height) t i cost
       → cost + get_or prices x 0 < 4294967296
-  seek-fits i cost x l q w =
-      let own = known-limit (get_or stack (height - 1 - i) 0) (symbol-of i l) in
+  seek_fits i cost x l q w =
+      let own = known_limit (get_or stack (height - 1 - i) 0) (symbol_of_lem i l) in
       omega (
         arith,
         w.pays,
-        bounded can.known (pile stack height) can.symbols short t token-low i,
-        pile-length stack height,
+        bounded can.known (pile stack height) can.symbols short t token_low i,
+        pile_length stack height,
         can.low,
         ap (λ y. get_or prices y 0) q,
         own,
       )
     where
-      known-limit : (X : ℕ) → SymbolOf S X → get_or prices X 0 ≤ 60000
-      known-limit = can.known.shared.cost-limit
+      known_limit : (X : ℕ) → SymbolOf S X → get_or prices X 0 ≤ 60000
+      known_limit = can.known.shared.cost_limit
 
   here : (s : Search) → SearchOf S (pile stack height) t r s → SearchOf S (pile stack height) (get_or log r 0) r s
   here s h = subst (λ u. SearchOf S (pile stack height) u r s) at-r h
 
-  pub seek_hit : (i cost l : ℕ) {b : Bool} → i < height → b ≡ beginsBy masks (get_or stack (height - 1 - i) 0) t → b ≡ true
-      → l ≡ limitBy prices t → cost < l → Walked S prices (pile stack height) t i cost
+  pub seek_hit : (i cost l : ℕ) {b : Bool} → i < height → b ≡ begins_by masks (get_or stack (height - 1 - i) 0) t → b ≡ true
+      → l ≡ limit_by prices t → cost < l → Walked S prices (pile stack height) t i cost
       → SearchOf S (pile stack height) (get_or log r 0) r (Hit r i)
   seek_hit i cost l m e n q k w =
-      here (Hit r i) (walked-hit can.known (pile stack height) can.symbols short t token-low r i cost
-      (omega (arith, pile-length stack height))
-      (ap (λ y. beginsBy masks y t) (cell i m) ∙ sym e ∙ n)
+      here (Hit r i) (walked_hit can.known (pile stack height) can.symbols short t token_low r i cost
+      (omega (arith, pile_length stack height))
+      (ap (λ y. begins_by masks y t) (cell i m) ∙ sym e ∙ n)
       (omega (arith, q, k)) w)
 
-  pub seek-dear : (i cost l : ℕ) → l ≡ limitBy prices t → l ≤ cost → Walked S prices (pile stack height) t i cost
+  pub seek_dear : (i cost l : ℕ) → l ≡ limit_by prices t → l ≤ cost → Walked S prices (pile stack height) t i cost
       → SearchOf S (pile stack height) (get_or log r 0) r Nothing
-  seek-dear i cost l q k w =
-      here Nothing (walked-dear can.known (pile stack height) can.symbols short t token-low r i cost (omega (arith, q, k)) w)
+  seek_dear i cost l q k w =
+      here Nothing (walked_dear can.known (pile stack height) can.symbols short t token_low r i cost (omega (arith, q, k)) w)
 
-  pub seek-all : (i cost : ℕ) → height ≤ i → Walked S prices (pile stack height) t i cost
+  pub seek_all : (i cost : ℕ) → height ≤ i → Walked S prices (pile stack height) t i cost
       → SearchOf S (pile stack height) (get_or log r 0) r Nothing
-  seek-all i cost l w =
+  seek_all i cost l w =
       here Nothing
-      (walked_all can.known (pile stack height) can.symbols short t token-low r i cost (omega (arith, pile-length stack height)) w)
+      (walked_all can.known (pile stack height) can.symbols short t token_low r i cost (omega (arith, pile_length stack height)) w)

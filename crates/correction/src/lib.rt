@@ -1,6 +1,6 @@
 // A correction: the least r, then the least i, with its deletes, drops and inserts. Document 01, "Moves", and request (ii) of 02.
 ghost use Rattle.std.specs.Prelude.{◌≡◌, ◌+◌, ◌-◌, ◌*◌, ◌≤◌, ◌<◌, ◌^◌, length, get_or};
-ghost use Rattle.grammar.specs.theory.Tables.{sizedOf};
+ghost use Rattle.grammar.specs.Theory.Tables.{sized_of};
 ghost use Rattle.moves.specs.Pile.{pile};
 ghost use Rattle.correction.specs.Searching.{CanSearch, SearchOf};
 ghost use Rattle.correction.specs.Records.{CanRecord, Recorded};
@@ -37,8 +37,8 @@ fn seek(
     height: usize,
     r: usize,
 ) -> Search
-    requires { CanSearch (sizedOf words.now) log.now masks.now prices.now stack.now height }
-    ensures { SearchOf (sizedOf words.now) (pile stack.now height) (get_or log.now r 0) r result }
+    requires { CanSearch (sized_of words.now) log.now masks.now prices.now stack.now height }
+    ensures { SearchOf (sized_of words.now) (pile stack.now height) (get_or log.now r 0) r result }
 {
     let t = token_at(log, r);
     let limit = prices[LIMITS + base::wide(t)];
@@ -110,8 +110,8 @@ pub fn correct(
     edits: &mut [u16],
     p: Parser,
 ) -> Corrected
-    requires { CanCorrect (sizedOf words.now) log.now masks.now prices.now stack.now p }
-    ensures { CorrectedOf (sizedOf words.now) log.now stack.now edits.old p
+    requires { CanCorrect (sized_of words.now) log.now masks.now prices.now stack.now p }
+    ensures { CorrectedOf (sized_of words.now) log.now stack.now edits.old p
         edits.new result }
 {
     let mut q = p;

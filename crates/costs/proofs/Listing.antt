@@ -1,8 +1,8 @@
 -- The list of the nonterminals whose cost fell: a rule that mentions none of them is settled.
---     list-begins   at first only the rules that mention no nonterminal are to be visited
---     list-goes     the rules that mention the one taken off are visited
---     list-ends     behind the list all rules are settled
---     list-less     it ends: a nonterminal that goes on it costs less
+--     list_begins   at first only the rules that mention no nonterminal are to be visited
+--     list_goes     the rules that mention the one taken off are visited
+--     list_ends     behind the list all rules are settled
+--     list_less     it ends: a nonterminal that goes on it costs less
 use Prim.Native.Nat.{ℕ, ◌+◌, ◌-◌, ◌*◌, ◌/◌, ◌^◌, ◌≤◌, ◌<◌}
 use mathlib.Core.Path.{◌≡◌, refl, sym, ap, ◌∙◌, subst}
 use mathlib.Core.Bool.{true}
@@ -12,25 +12,25 @@ use mathlib.Core.Logic.{◌⊎◌, inl, inr, ⊎_elim}
 use native.Mathlib.Omega.{arith}
 use lib.ListN.{length}
 use Rattle.base.specs.Choices.{below_or, same_or}
-use Rattle.grammar.specs.Words.{terminalCount, nonterminalCount, ruleCount, leftSide, rightSide, RuleSymbol, Shaped}
-use Rattle.grammar.specs.theory.Closed.{total}
-use Rattle.grammar.specs.theory.Members.{all-at}
-use Rattle.grammar.specs.theory.RightSides.{right-symbols}
+use Rattle.grammar.specs.Words.{terminal_count, nonterminal_count, rule_count, left_side, right_side, RuleSymbol, Shaped}
+use Rattle.grammar.specs.Theory.Closed.{total}
+use Rattle.grammar.specs.Theory.Members.{all_at}
+use Rattle.grammar.specs.Theory.RightSides.{right_symbols}
 use Rattle.sets.specs.Bits.{member}
 use Rattle.sets.specs.Operations.{union, without, Greatest}
-use Rattle.sets.specs.Laws.{empty-none, union_left, union-none}
-use Rattle.sets.specs.Taking.{without-keeps, without-less}
-use Rattle.growth.specs.Sums.{first-less, second-less}
+use Rattle.sets.specs.Laws.{empty_none, union_left, union_none}
+use Rattle.sets.specs.Taking.{without_keeps, without_less}
+use Rattle.growth.specs.Sums.{first_less, second_less}
 use Rattle.mentions.specs.Mentions.{Mentions, InRow, MentionsOf}
-use Rattle.costs.specs.Held.{Held, Fresh, SettledAt, Stands, costSum, entry}
-use Rattle.costs.specs.Visiting.{Waits, Revised, Spans, waits-right}
+use Rattle.costs.specs.Held.{Held, Fresh, SettledAt, Stands, cost_sum, entry}
+use Rattle.costs.specs.Visiting.{Waits, Revised, Spans, waits_right}
 
 pub record Listing (ws l : List ℕ) (list : ℕ) : Type 0 where
   pub held : Held ws l
-  pub waits : (q : ℕ) → q < ruleCount ws → Waits ws list q ⊎ SettledAt ws q l
+  pub waits : (q : ℕ) → q < rule_count ws → Waits ws list q ⊎ SettledAt ws q l
 
 -- The words that the rules take.
-pub spans : {ws mentions : List ℕ} {count : ℕ} → MentionsOf ws mentions → count ≡ ruleCount ws → Spans ws mentions ((count + 63) / 64)
+pub spans : {ws mentions : List ℕ} {count : ℕ} → MentionsOf ws mentions → count ≡ rule_count ws → Spans ws mentions ((count + 63) / 64)
 spans {ws} {mentions} m e =
     record { few = subst (λ n. 65 * ((n + 63) / 64) ≤ length mentions) (sym e) m.wide; all = omega arith }
 
@@ -56,18 +56,18 @@ part_of f (Memᴰ.head e) = omega (arith, ap f e)
 part_of f (Memᴰ.tail m) = omega (arith, part_of f m)
 
 module _ {ws l : List ℕ} (s : Shaped ws) (fresh : Fresh ws l) where
-  named : {k : ℕ} → RuleSymbol (terminalCount ws) (nonterminalCount ws) (64 + k) → k < nonterminalCount ws
-  named (RuleSymbol.terminal low high) = absurd (omega (arith, s.terminals-high))
+  named : {k : ℕ} → RuleSymbol (terminal_count ws) (nonterminal_count ws) (64 + k) → k < nonterminal_count ws
+  named (RuleSymbol.terminal low high) = absurd (omega (arith, s.terminals_high))
   named (RuleSymbol.nonterminal low high) = omega arith
 
-  own : (q : ℕ) → q < ruleCount ws → entry l (leftSide ws q) ≡ 1000000
-  unfolding leftSide
+  own : (q : ℕ) → q < rule_count ws → entry l (left_side ws q) ≡ 1000000
+  unfolding left_side
   own q h = fresh.unknown _ (s.rules q h).left
 
-  unvisited : (q k : ℕ) → q < ruleCount ws → Mentions ws q k → SettledAt ws q l
+  unvisited : (q k : ℕ) → q < rule_count ws → Mentions ws q k → SettledAt ws q l
   unvisited q k h m =
       let left = own q h in
-      let one = fresh.unknown k (named (all-at (right-symbols ws s q h) m)) in
+      let one = fresh.unknown k (named (all_at (right_symbols ws s q h) m)) in
       let all = part_of (entry l) m in
       record {
         below = omega arith;
@@ -75,30 +75,30 @@ module _ {ws l : List ℕ} (s : Shaped ws) (fresh : Fresh ws l) where
         lowest = λ e few. absurd (omega arith);
       }
 
-  pub list-begins : {mentions new : List ℕ} {list : ℕ} → MentionsOf ws mentions → Revised ws (InRow mentions 64) l new list
+  pub list_begins : {mentions new : List ℕ} {list : ℕ} → MentionsOf ws mentions → Revised ws (InRow mentions 64) l new list
       → Listing ws new list
-  list-begins {mentions} m v =
+  list_begins {mentions} m v =
       record {
         held = v.held;
         waits = λ q h.
             v.settles q h
             (⊎_elim (λ some. inr (unvisited q some.0 h some.1))
             (λ none. inl ((m.plain q).1 (h, none)))
-            (some_or_none (rightSide ws q)));
+            (some_or_none (right_side ws q)));
       }
 
 -- ---- The list
 
-pub list-goes : {ws mentions old new : List ℕ} {list k fallen : ℕ} → MentionsOf ws mentions → Listing ws old list → Greatest list k
+pub list_goes : {ws mentions old new : List ℕ} {list k fallen : ℕ} → MentionsOf ws mentions → Listing ws old list → Greatest list k
     → Revised ws (InRow mentions k) old new fallen → Listing ws new (union (without list k) fallen)
-list-goes {ws} {mentions} {old} {new} {list} {k} {fallen} m f at v =
+list_goes {ws} {mentions} {old} {new} {list} {k} {fallen} m f at v =
     record { held = v.held; waits = λ q h. ⊎_elim (waiting q h) (λ settled. visited q h (inr settled)) (f.waits q h) }
   where
-    visited : (q : ℕ) → q < ruleCount ws → InRow mentions k q ⊎ SettledAt ws q old
+    visited : (q : ℕ) → q < rule_count ws → InRow mentions k q ⊎ SettledAt ws q old
         → Waits ws (union (without list k) fallen) q ⊎ SettledAt ws q new
-    visited q h x = ⊎_elim (λ w. inl (waits-right (without list k) w)) inr (v.settles q h x)
+    visited q h x = ⊎_elim (λ w. inl (waits_right (without list k) w)) inr (v.settles q h x)
 
-    waiting : (q : ℕ) → q < ruleCount ws → Waits ws list q → Waits ws (union (without list k) fallen) q ⊎ SettledAt ws q new
+    waiting : (q : ℕ) → q < rule_count ws → Waits ws list q → Waits ws (union (without list k) fallen) q ⊎ SettledAt ws q new
     waiting q h w =
         ⊎_elim
         (λ e.
@@ -109,32 +109,32 @@ list-goes {ws} {mentions} {old} {new} {list} {k} {fallen} m f at v =
         inl
         (record {
           number = w.number;
-          listed = union_left (without list k) fallen w.number (without-keeps list k w.number at.held n w.listed);
+          listed = union_left (without list k) fallen w.number (without_keeps list k w.number at.held n w.listed);
           mentions = w.mentions;
         }))
         (same_or k w.number)
 
-pub list-ends : {ws l : List ℕ} {list : ℕ} → Listing ws l list → list ≡ 0 → Stands ws l
-list-ends f e =
+pub list_ends : {ws l : List ℕ} {list : ℕ} → Listing ws l list → list ≡ 0 → Stands ws l
+list_ends f e =
     record {
       held = f.held;
       settles = λ q h.
-          ⊎_elim (λ w. absurd (empty-none w.number (subst (λ s. member s w.number ≡ true) e w.listed))) (λ settled. settled)
+          ⊎_elim (λ w. absurd (empty_none w.number (subst (λ s. member s w.number ≡ true) e w.listed))) (λ settled. settled)
           (f.waits q h);
     }
 
 -- What is left to be done.
 abbrev pub left : List ℕ → ℕ → ℕ
-left l list = costSum l * 2 ^ 64 + list
+left l list = cost_sum l * 2 ^ 64 + list
 
-pub list-less : {ws old new : List ℕ} {Done : ℕ → Type 0} {list k fallen : ℕ} → Greatest list k → Revised ws Done old new fallen
+pub list_less : {ws old new : List ℕ} {Done : ℕ → Type 0} {list k fallen : ℕ} → Greatest list k → Revised ws Done old new fallen
     → union (without list k) fallen < 2 ^ 64 → left new (union (without list k) fallen) < left old list
-list-less {old = old} {new} {list = list} {k} {fallen} at v small =
+list_less {old = old} {new} {list = list} {k} {fallen} at v small =
     ⊎_elim
     (λ zero.
     let none : fallen ≡ 0 = omega arith in
-    let rest = ap (λ n. union (without list k) n) none ∙ union-none (without list k) in
-    second-less (2 ^ 64) (costSum old) (costSum new) list (union (without list k) fallen) (v.level none)
-    (subst (λ n. n < list) (sym rest) (without-less list k at.held)))
-    (λ some. first-less (2 ^ 64) (costSum old) (costSum new) list (union (without list k) fallen) (v.lower some) small)
+    let rest = ap (λ n. union (without list k) n) none ∙ union_none (without list k) in
+    second_less (2 ^ 64) (cost_sum old) (cost_sum new) list (union (without list k) fallen) (v.level none)
+    (subst (λ n. n < list) (sym rest) (without_less list k at.held)))
+    (λ some. first_less (2 ^ 64) (cost_sum old) (cost_sum new) list (union (without list k) fallen) (v.lower some) small)
     (below_or fallen 1)

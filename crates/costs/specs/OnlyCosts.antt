@@ -2,14 +2,14 @@
 use Rattle.std.specs.Prelude.{ℕ, ◌+◌, ◌-◌, ◌≤◌, ◌<◌, ◌≡◌, List, length, get_or}
 use Rattle.std.proofs.Common.{sym, ◌∙◌, subst, ⊎_elim, arith, ext_get_or}
 use Rattle.base.specs.Choices.{below_or}
-use Rattle.grammar.specs.Words.{terminalCount, nonterminalCount, insertCost}
+use Rattle.grammar.specs.Words.{terminal_count, nonterminal_count, insert_cost}
 use Rattle.grammar.specs.Grammar.{RuleOf}
-use Rattle.grammar.specs.theory.Costing.{cheapest-rule-unique}
+use Rattle.grammar.specs.Theory.Costing.{cheapest_rule_unique}
 use Rattle.costs.specs.Costed.{Costed}
 
 module _ (ws l m : List ℕ) (one : Costed ws l) (two : Costed ws m) where
   -- A cost that one table knows the other knows, and holds no lower.
-  no_lower : (k : ℕ) → k < nonterminalCount ws → get_or l (64 + k) 0 ≤ 60000 → get_or m (64 + k) 0 ≤ get_or l (64 + k) 0
+  no_lower : (k : ℕ) → k < nonterminal_count ws → get_or l (64 + k) 0 ≤ 60000 → get_or m (64 + k) 0 ≤ get_or l (64 + k) 0
   no_lower k h small =
       let mine = (one.exact k h small).cheapest in
       ⊎_elim
@@ -18,9 +18,9 @@ module _ (ws l m : List ℕ) (one : Costed ws l) (two : Costed ws m) where
       (below_or (get_or m (64 + k) 0) 60001)
 
   -- A cost above 60,000 is the same in both: 60,001 where there is a string, and 1,000,000 where there is none.
-  high-cost : (k : ℕ) → k < nonterminalCount ws → 60001 ≤ get_or l (64 + k) 0 → 60001 ≤ get_or m (64 + k) 0
+  high_cost : (k : ℕ) → k < nonterminal_count ws → 60001 ≤ get_or l (64 + k) 0 → 60001 ≤ get_or m (64 + k) 0
       → get_or l (64 + k) 0 ≡ get_or m (64 + k) 0
-  high-cost k h over also =
+  high_cost k h over also =
       ⊎_elim
       (λ low.
       ⊎_elim (λ small. omega arith) (λ none. absurd (two.barren k h (omega (arith, none.2)) (one.productive k h low)))
@@ -31,10 +31,10 @@ module _ (ws l m : List ℕ) (one : Costed ws l) (two : Costed ws m) where
       (two.limit (64 + k)))
       (one.limit (64 + k))
 
-pub costs-unique : (ws l m : List ℕ) → Costed ws l → Costed ws m → l ≡ m
-costs-unique ws l m one two = ext_get_or 0 l m (one.size ∙ sym two.size) same
+pub costs_unique : (ws l m : List ℕ) → Costed ws l → Costed ws m → l ≡ m
+costs_unique ws l m one two = ext_get_or 0 l m (one.size ∙ sym two.size) same
   where
-    cost : (k : ℕ) → k < nonterminalCount ws → get_or l (64 + k) 0 ≡ get_or m (64 + k) 0
+    cost : (k : ℕ) → k < nonterminal_count ws → get_or l (64 + k) 0 ≡ get_or m (64 + k) 0
     cost k h =
         ⊎_elim
         (λ known.
@@ -42,28 +42,28 @@ costs-unique ws l m one two = ext_get_or 0 l m (one.size ∙ sym two.size) same
         omega (arith, no_lower ws m l two one k h (omega arith)))
         (λ over.
         ⊎_elim (λ known. omega (arith, no_lower ws m l two one k h (omega arith)))
-        (λ also. high-cost ws l m one two k h over also)
+        (λ also. high_cost ws l m one two k h over also)
         (below_or (get_or m (64 + k) 0) 60001))
         (below_or (get_or l (64 + k) 0) 60001)
 
-    rule : (k : ℕ) → k < nonterminalCount ws → get_or l (128 + k) 0 ≡ get_or m (128 + k) 0
+    rule : (k : ℕ) → k < nonterminal_count ws → get_or l (128 + k) 0 ≡ get_or m (128 + k) 0
     rule k h =
         ⊎_elim
         (λ known.
-        (cheapest-rule-unique (RuleOf ws) (insertCost ws) (one.exact k h (omega arith)) (two.exact k h (omega (arith, cost k h)))).1)
-        (λ over. one.no-rule k h (omega arith) ∙ sym (two.no-rule k h (omega (arith, cost k h))))
+        (cheapest_rule_unique (RuleOf ws) (insert_cost ws) (one.exact k h (omega arith)) (two.exact k h (omega (arith, cost k h)))).1)
+        (λ over. one.no_rule k h (omega arith) ∙ sym (two.no_rule k h (omega (arith, cost k h))))
         (below_or (get_or l (64 + k) 0) 60001)
 
     -- From nonterminal 0 on, in either half of the table.
-    named : (from : ℕ) → ((k : ℕ) → k < nonterminalCount ws → get_or l (from + k) 0 ≡ get_or m (from + k) 0)
-        → (X : ℕ) → from ≤ X → (from + nonterminalCount ws ≤ X → get_or l X 0 ≡ get_or m X 0) → get_or l X 0 ≡ get_or m X 0
+    named : (from : ℕ) → ((k : ℕ) → k < nonterminal_count ws → get_or l (from + k) 0 ≡ get_or m (from + k) 0)
+        → (X : ℕ) → from ≤ X → (from + nonterminal_count ws ≤ X → get_or l X 0 ≡ get_or m X 0) → get_or l X 0 ≡ get_or m X 0
     named from each X above beyond =
         ⊎_elim
         (λ h.
         let e : from + (X - from) ≡ X = omega arith in
         subst (λ Y. get_or l Y 0 ≡ get_or m Y 0) e (each (X - from) (omega arith)))
         beyond
-        (below_or X (from + nonterminalCount ws))
+        (below_or X (from + nonterminal_count ws))
 
     high : (X : ℕ) → 64 ≤ X → get_or l X 0 ≡ get_or m X 0
     high X above =
@@ -74,7 +74,7 @@ costs-unique ws l m one two = ext_get_or 0 l m (one.size ∙ sym two.size) same
     low : (X : ℕ) → X < 64 → get_or l X 0 ≡ get_or m X 0
     low X below =
         ⊎_elim (λ h. one.terminal X h ∙ sym (two.terminal X h)) (λ h. one.blank X h below ∙ sym (two.blank X h below))
-        (below_or X (terminalCount ws))
+        (below_or X (terminal_count ws))
 
     same : (X : ℕ) → X < length l → get_or l X 0 ≡ get_or m X 0
     same X h = ⊎_elim (low X) (high X) (below_or X 64)

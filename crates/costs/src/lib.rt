@@ -6,9 +6,9 @@
 ghost use Rattle.std.specs.Prelude.{◌≡◌, ◌+◌, ◌*◌, ◌<◌, true};
 ghost use Rattle.sets.specs.Bits.{member};
 ghost use Rattle.grammar.specs.Grammar.{RuleOf};
-ghost use Rattle.grammar.specs.Words.{Shaped, nonterminalCount, rightSide, ruleCount};
-ghost use Rattle.grammar.specs.theory.Masks.{NullMask};
-ghost use Rattle.grammar.specs.theory.Closed.{total};
+ghost use Rattle.grammar.specs.Words.{Shaped, nonterminal_count, right_side, rule_count};
+ghost use Rattle.grammar.specs.Theory.Masks.{NullMask};
+ghost use Rattle.grammar.specs.Theory.Closed.{total};
 ghost use Rattle.shape.specs.Ready.{Ready};
 ghost use Rattle.base.specs.Blank.{Blank};
 ghost use Rattle.mentions.specs.Mentions.{InRow, MentionsOf};
@@ -45,7 +45,7 @@ pub fn costs(words: &[u16], places: &[u16], mentions: &[u64], table: &mut [u32])
 pub fn empties(words: &[u16], table: &[u32]) -> u64
     requires shaped { Shaped words.now }
     requires costed { Costed words.now table.now }
-    ensures { NullMask (RuleOf words.now) (nonterminalCount words.now) result }
+    ensures { NullMask (RuleOf words.now) (nonterminal_count words.now) result }
 {
     let count = shape::nonterminal_count(words);
     let mut mask = 0;
@@ -159,7 +159,7 @@ fn visit_word(words: &[u16], places: &[u16], rules: u64, w: usize, table: &mut [
 // where its cost falls.
 fn visit(words: &[u16], places: &[u16], p: usize, table: &mut [u32]) -> u64
     requires ready { Ready words.now places.now }
-    requires p_bound { p < ruleCount words.now }
+    requires p_bound { p < rule_count words.now }
     requires held { Held words.now table.old }
     ensures { Revised words.now (λ q. q ≡ p) table.old table.new result }
 {
@@ -228,9 +228,9 @@ fn fell(cost: u32, sum: u32, k: u16) -> u64
 // The sum over rule p's right side, from its end. Eight costs are far below 2 ^ 32.
 fn rule_cost(words: &[u16], places: &[u16], p: usize, table: &[u32]) -> u32
     requires ready { Ready words.now places.now }
-    requires p_bound { p < ruleCount words.now }
+    requires p_bound { p < rule_count words.now }
     requires limited { Limited table.now }
-    ensures { result ≡ total (entry table.now) (rightSide words.now p) }
+    ensures { result ≡ total (entry table.now) (right_side words.now p) }
 {
     let mut i = shape::size_of(words, places, p);
     let mut sum: u32 = 0;

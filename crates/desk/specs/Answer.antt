@@ -9,13 +9,13 @@ use Rattle.desk.specs.declared.Desk.{Desk}
 use Rattle.desk.specs.declared.Desk.TheVariants.{Listed, Refused}
 
 -- What each answer stands for: the number of nonterminals, or the refusal.
-abbrev pub deskOf : Desk → Outcome ℕ
-deskOf (Listed n) = given n
-deskOf (Refused r) = refused r
+abbrev pub desk_of : Desk → Outcome ℕ
+desk_of (Listed n) = given n
+desk_of (Refused r) = refused r
 
 -- Accepted words with their table, and two clear buffers.
 pub record CanList (ws table costs rules : List ℕ) : Type 0 where
   pub accepts : Verdict ws none
   pub priced : Priced ws table
-  pub costs-clear : costs ≡ cleared (length costs)
-  pub rules-clear : rules ≡ cleared (length rules)
+  pub costs_clear : costs ≡ cleared (length costs)
+  pub rules_clear : rules ≡ cleared (length rules)

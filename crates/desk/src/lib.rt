@@ -2,12 +2,12 @@
 ghost use Rattle.std.specs.Prelude.{◌≡◌, ℕ, ◌+◌, ◌≤◌, drop, get_or, length, take};
 ghost use Rattle.base.specs.Written.{written};
 ghost use Rattle.grammar.specs.Desk.{DeskAnswer};
-ghost use Rattle.desk.specs.Answer.{CanList, deskOf};
+ghost use Rattle.desk.specs.Answer.{CanList, desk_of};
 
 use grammar::Refusal;
 use verdict::Checked;
 
-// The answer: of how many nonterminals cost and rule stand in the buffers, or a refusal. `deskOf` of specs/Answer.antt says what each
+// The answer: of how many nonterminals cost and rule stand in the buffers, or a refusal. `desk_of` of specs/Answer.antt says what each
 // stands for.
 #[derive(Drop)]
 pub enum Desk {
@@ -24,7 +24,7 @@ const RULES: usize = 128;
 // 5 to 9 and 23 that applies, and both are zero. The words are checked here. Both buffers are cleared first, so that no refusal can leave
 // an old word in them.
 pub fn costs(words: &[u16], costs: &mut [u16], rules: &mut [u16]) -> Desk
-    ensures { DeskAnswer words.now (length costs.old) (length rules.old) (deskOf result)
+    ensures { DeskAnswer words.now (length costs.old) (length rules.old) (desk_of result)
         costs.new rules.new }
 {
     base::clear_words(costs, 0);
@@ -40,7 +40,7 @@ pub fn costs(words: &[u16], costs: &mut [u16], rules: &mut [u16]) -> Desk
 // Lists them from the table of accepted words, or gives refusal 23: either buffer may be the short one.
 fn list(words: &[u16], table: &[u32], costs: &mut [u16], rules: &mut [u16]) -> Desk
     requires { CanList words.now table.now costs.old rules.old }
-    ensures { DeskAnswer words.now (length costs.old) (length rules.old) (deskOf result)
+    ensures { DeskAnswer words.now (length costs.old) (length rules.old) (desk_of result)
         costs.new rules.new }
 {
     let count = shape::nonterminal_count(words);

@@ -10,7 +10,7 @@ ghost use Rattle.exports.specs.Status.{
   Put,
   ReadAs,
   WrittenAs,
-  plusZero,
+  plus_zero,
 };
 
 use desk::Desk;
@@ -204,7 +204,7 @@ fn put(counts: &mut [u64], at: usize, count: u64)
 
 // Makes every cell 0.0.
 fn clear_mean(mean: &mut [f64])
-    ensures { mean.new ≡ replicate (length mean.old) plusZero }
+    ensures { mean.new ≡ replicate (length mean.old) plus_zero }
 {
     let mut i = 0;
     while i < mean.len() {

@@ -1,7 +1,7 @@
 -- What the test of the unused words looks at: bytes joined into one that is zero exactly where they are, and the part of a block
 -- that holds those words.
---     joined-begins, joined-goes, joined-tells     the joined byte, one byte more, all of them
---     part-tells                                   the part is zero exactly where the unused words are
+--     joined_begins, joined_goes, joined_tells     the joined byte, one byte more, all of them
+--     part_tells                                   the part is zero exactly where the unused words are
 use Prim.Native.Nat.{ℕ, ◌+◌, ◌*◌, ◌-◌, ◌/◌, ◌%◌, ◌≤◌, ◌<◌}
 use native.Mathlib.Omega.{arith}
 use mathlib.Core.Bool.{Bool}
@@ -13,8 +13,8 @@ use lib.Bits.{bit_or, or_add_and, and_le_l, and_le_r, or_zero_l}
 use lib.Dec.{eqb}
 use lib.ListN.{length, get_or, take, drop, length-drop}
 use lib.Seq.{get_or-take, get_or-drop, length-take-le}
-use Rattle.base.specs.Telling.{Tells, tells_as, tells-eq, below_or_not}
-use Rattle.grammar.specs.File.{blockWord}
+use Rattle.base.specs.Telling.{Tells, tells_as, tells_eq, below_or_not}
+use Rattle.grammar.specs.File.{block_word}
 use Rattle.file.specs.Answer.{AllZero, UnusedZero}
 
 -- ---- Bytes joined into one
@@ -30,11 +30,11 @@ or_left a b e = omega (arith, or_add_and a b, and_le_r a b)
 or_right : (a b : ℕ) → bit_or a b ≡ 0 → b ≡ 0
 or_right a b e = omega (arith, or_add_and a b, and_le_l a b)
 
-pub joined-begins : (bytes : List ℕ) → Joined bytes 0 0
-joined-begins bytes = record { zeros = λ _ j l. absurd (omega arith); zero = λ _. omega arith }
+pub joined_begins : (bytes : List ℕ) → Joined bytes 0 0
+joined_begins bytes = record { zeros = λ _ j l. absurd (omega arith); zero = λ _. omega arith }
 
-pub joined-goes : {bytes : List ℕ} {i all : ℕ} → Joined bytes i all → Joined bytes (i + 1) (bit_or all (get_or bytes i 0))
-joined-goes {bytes} {i} {all} r =
+pub joined_goes : {bytes : List ℕ} {i all : ℕ} → Joined bytes i all → Joined bytes (i + 1) (bit_or all (get_or bytes i 0))
+joined_goes {bytes} {i} {all} r =
     let next : ℕ = get_or bytes i 0 in
     record {
       zeros = λ none. below_more _ _ (r.zeros (or_left all next none)) (or_right all next none);
@@ -43,9 +43,9 @@ joined-goes {bytes} {i} {all} r =
           ∙ (or_zero_l next ∙ each i (omega arith));
     }
 
-pub joined-tells : {bytes : List ℕ} {i all : ℕ} → Joined bytes i all → i ≡ length bytes → Tells (AllZero bytes) (eqb all 0)
-joined-tells {all = all} r end =
-    tells-eq all 0 (λ none j l. r.zeros none j (omega arith)) (λ each. r.zero (λ j l. each j (omega arith)))
+pub joined_tells : {bytes : List ℕ} {i all : ℕ} → Joined bytes i all → i ≡ length bytes → Tells (AllZero bytes) (eqb all 0)
+joined_tells {all = all} r end =
+    tells_eq all 0 (λ none j l. r.zeros none j (omega arith)) (λ each. r.zero (λ j l. each j (omega arith)))
 
 -- ---- The part of block k behind the used words
 
@@ -62,9 +62,9 @@ module _ (bytes : List ℕ) (k used size : ℕ) where
   part_at j l = get_or-take size (drop begin bytes) j 0 l ∙ get_or-drop begin bytes j 0
 
   -- Byte j of the part is one of the two of word `used + j / 2`.
-  unused-at : UnusedZero bytes k used → (j : ℕ) → begin + j < 512 * k + 510 → get_or bytes (begin + j) 0 ≡ 0
-  unused-at zero j l =
-      let word : blockWord bytes k (used + j / 2) ≡ 0 = zero (used + j / 2) (omega arith) (omega arith) in
+  unused_at : UnusedZero bytes k used → (j : ℕ) → begin + j < 512 * k + 510 → get_or bytes (begin + j) 0 ≡ 0
+  unused_at zero j l =
+      let word : block_word bytes k (used + j / 2) ≡ 0 = zero (used + j / 2) (omega arith) (omega arith) in
       ⊎_elim
       (λ even.
       let here : begin + j ≡ 512 * k + 4 + 2 * (used + j / 2) = omega arith in
@@ -78,8 +78,8 @@ module _ (bytes : List ℕ) (k used size : ℕ) where
     part_length : length part ≡ size
     part_length = omega (arith, length-take-le size (drop begin bytes) (omega (arith, length-drop begin bytes)))
 
-    part-unused : AllZero part → UnusedZero bytes k used
-    part-unused zero i above below =
+    part_unused : AllZero part → UnusedZero bytes k used
+    part_unused zero i above below =
         let low : get_or bytes (begin + 2 * (i - used)) 0 ≡ 0 = at (2 * (i - used)) (omega arith) in
         let high : get_or bytes (begin + (2 * (i - used) + 1)) 0 ≡ 0 = at (2 * (i - used) + 1) (omega arith) in
         let first : begin + 2 * (i - used) ≡ 512 * k + 4 + 2 * i = omega arith in
@@ -89,9 +89,9 @@ module _ (bytes : List ℕ) (k used size : ℕ) where
         at : (j : ℕ) → j < size → get_or bytes (begin + j) 0 ≡ 0
         at j l = sym (part_at j l) ∙ zero j (omega (arith, part_length))
 
-    unused-part : UnusedZero bytes k used → AllZero part
-    unused-part zero j l = part_at j (omega (arith, part_length)) ∙ unused-at zero j (omega (arith, part_length))
+    unused_part : UnusedZero bytes k used → AllZero part
+    unused_part zero j l = part_at j (omega (arith, part_length)) ∙ unused_at zero j (omega (arith, part_length))
 
     -- The test of the part tells whether the unused words are zero.
-    pub part-tells : {r : Bool} → Tells (AllZero part) r → Tells (UnusedZero bytes k used) r
-    part-tells = tells_as part-unused unused-part
+    pub part_tells : {r : Bool} → Tells (AllZero part) r → Tells (UnusedZero bytes k used) r
+    part_tells = tells_as part_unused unused_part

@@ -1,7 +1,7 @@
 -- What the reader's answers mean, and what two of its tests tell.
 use Rattle.std.specs.Prelude.{ℕ, ◌≤◌, ◌<◌, ◌≡◌, List, length, get_or}
 use Rattle.grammar.specs.Refusals.{Outcome, given, refused}
-use Rattle.grammar.specs.File.{blockWord}
+use Rattle.grammar.specs.File.{block_word}
 use Rattle.file.specs.declared.Reading.{Reading}
 use Rattle.file.specs.declared.Reading.TheVariants.{Words, Refused}
 
@@ -12,7 +12,7 @@ reading_of (Refused r) = refused r
 
 -- The words of block k behind the used ones are zero.
 abbrev pub UnusedZero : List ℕ → ℕ → ℕ → Type 0
-UnusedZero bytes k used = (i : ℕ) → used ≤ i → i < 253 → blockWord bytes k i ≡ 0
+UnusedZero bytes k used = (i : ℕ) → used ≤ i → i < 253 → block_word bytes k i ≡ 0
 
 -- Every byte of a part is zero.
 abbrev pub AllZero : List ℕ → Type 0

@@ -7,13 +7,13 @@ ghost use Rattle.grammar.specs.File.{
   FileRead,
   FileSize,
   UseCount,
-  blockCount,
-  fileWords,
+  block_count,
+  file_words,
   pair_at,
-  wordsUsed,
+  words_used,
 };
 ghost use Rattle.base.specs.Written.{begun, written};
-ghost use Rattle.grammar.specs.theory.Files.{CheckRight, blockWords};
+ghost use Rattle.grammar.specs.Theory.Files.{CheckRight, block_words};
 ghost use Rattle.file.specs.Answer.{AllZero, UnusedZero, reading_of};
 
 use block::{BLOCK_BYTES, BLOCK_WORDS, CHECK, FIRST_WORD, USE_COUNT};
@@ -86,7 +86,7 @@ fn checks_right(bytes: &[u8]) -> bool
 
 // The check of block k stands in its last two bytes.
 fn check_right(bytes: &[u8], k: usize) -> bool
-    requires { k < blockCount bytes.now }
+    requires { k < block_count bytes.now }
     ensures { Tells (CheckRight bytes.now k) result }
 {
     let start = BLOCK_BYTES * k;
@@ -112,8 +112,8 @@ fn blocks_right(bytes: &[u8]) -> bool
 
 // Block number, use count and unused words of block k.
 fn fields_right(bytes: &[u8], k: usize, count: usize) -> bool
-    requires k_bound { k < blockCount bytes.now }
-    requires count_value { count ≡ blockCount bytes.now }
+    requires k_bound { k < block_count bytes.now }
+    requires count_value { count ≡ block_count bytes.now }
     ensures { Tells (BlockFields bytes.now k) result }
 {
     if number(bytes, BLOCK_BYTES * k) != k {
@@ -142,7 +142,7 @@ fn use_count_right(count: usize, k: usize, used: usize) -> bool
 
 // The words of block k behind the used ones.
 fn unused_zero(bytes: &[u8], k: usize, used: usize) -> bool
-    requires k_bound { k < blockCount bytes.now }
+    requires k_bound { k < block_count bytes.now }
     requires used_bound { used ≤ 253 }
     ensures { Tells (UnusedZero bytes.now k used) result }
 {
@@ -170,9 +170,9 @@ fn all_zero(bytes: &[u8]) -> bool
 
 // How many words a file has whose blocks are right: every block but the last is full.
 fn word_count(bytes: &[u8]) -> usize
-    requires bytes_nonzero { 0 < blockCount bytes.now }
+    requires bytes_nonzero { 0 < block_count bytes.now }
     requires each_block { EachBlock bytes.now (BlockFields bytes.now) }
-    ensures { result ≡ length (fileWords bytes.now) }
+    ensures { result ≡ length (file_words bytes.now) }
 {
     let last = bytes.len() / BLOCK_BYTES - 1;
     BLOCK_WORDS * last + number(bytes, BLOCK_BYTES * last + USE_COUNT)
@@ -181,8 +181,8 @@ fn word_count(bytes: &[u8]) -> usize
 // Copies the used words of every block to the front of the buffer, in order.
 fn copy_blocks(bytes: &[u8], words: &mut [u16])
     requires each_block { EachBlock bytes.now (BlockFields bytes.now) }
-    requires bytes_in_bounds { length (fileWords bytes.now) ≤ length words.old }
-    ensures { words.new ≡ begun words.old (fileWords bytes.now) }
+    requires bytes_in_bounds { length (file_words bytes.now) ≤ length words.old }
+    ensures { words.new ≡ begun words.old (file_words bytes.now) }
 {
     let count = bytes.len() / BLOCK_BYTES;
     let mut at = 0;
@@ -195,11 +195,11 @@ fn copy_blocks(bytes: &[u8], words: &mut [u16])
 
 // Copies the used words of block k to the place `at` of the buffer, and gives the place behind them.
 fn copy_block(bytes: &[u8], k: usize, words: &mut [u16], at: usize) -> usize
-    requires k_bound { k < blockCount bytes.now }
-    requires k_bound_2 { wordsUsed bytes.now k ≤ 253 }
-    requires k_in_bounds { at + wordsUsed bytes.now k ≤ length words.old }
-    ensures value { result ≡ at + wordsUsed bytes.now k }
-    ensures words_after { words.new ≡ written words.old at (blockWords bytes.now k) }
+    requires k_bound { k < block_count bytes.now }
+    requires k_bound_2 { words_used bytes.now k ≤ 253 }
+    requires k_in_bounds { at + words_used bytes.now k ≤ length words.old }
+    ensures value { result ≡ at + words_used bytes.now k }
+    ensures words_after { words.new ≡ written words.old at (block_words bytes.now k) }
 {
     let used = number(bytes, BLOCK_BYTES * k + USE_COUNT);
     let start = BLOCK_BYTES * k + FIRST_WORD;

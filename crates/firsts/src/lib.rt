@@ -2,7 +2,7 @@
 // For the nonterminals each rule is visited once, and then a list has those whose set must be passed on (request (v)). For both a
 // right side is walked from its front, and no further than to its first symbol that cannot be empty.
 ghost use Rattle.std.specs.Prelude.{◌≡◌, [], ◌∷◌, ◌<◌, length};
-ghost use Rattle.grammar.specs.Words.{rightSide, ruleCount};
+ghost use Rattle.grammar.specs.Words.{right_side, rule_count};
 ghost use Rattle.base.specs.Blank.{Blank};
 ghost use Rattle.firsts.specs.Opens.{FirstWith};
 ghost use Rattle.firsts.specs.Masks.{FirstsOf};
@@ -48,8 +48,8 @@ pub fn first_with(
     base: u64,
 ) -> u64
     requires asked { Asked words.now places.now null firsts.now }
-    requires p_bound { p < ruleCount words.now }
-    ensures { FirstWith null firsts.now base (rightSide words.now p) result }
+    requires p_bound { p < rule_count words.now }
+    ensures { FirstWith null firsts.now base (right_side words.now p) result }
 {
     let size = shape::size_of(words, places, p);
     let mut set = 0;
@@ -114,7 +114,7 @@ fn lead(
     out: &mut [u64],
 ) -> u64
     requires asked { Asked words.now places.now null out.old }
-    requires p_bound { p < ruleCount words.now }
+    requires p_bound { p < rule_count words.now }
     requires begun { Begun words.now feeds.old out.old list }
     ensures { Led words.now null p feeds.old out.old feeds.new out.new result }
 {

@@ -2,21 +2,21 @@
 -- them. The walk from the end notes each nonterminal behind which all can be empty.
 use Rattle.std.specs.Prelude.{ℕ, ◌+◌, ◌-◌, ◌≤◌, ◌<◌, ◌≡◌, refl, Bool, true, false, List, [], ◌∷◌, ◌++◌, ◌↔◌, length, drop}
 use Rattle.std.proofs.Common.{sym, ap, ◌∙◌, subst, ⊎_elim, arith}
-use Rattle.grammar.specs.theory.Masks.{NullMask}
-use Rattle.grammar.specs.Words.{terminalCount, nonterminalCount, ruleCount, rightSide, RuleSymbol, Shaped}
+use Rattle.grammar.specs.Theory.Masks.{NullMask}
+use Rattle.grammar.specs.Words.{terminal_count, nonterminal_count, rule_count, right_side, RuleSymbol, Shaped}
 use Rattle.grammar.specs.Derivation.{All, Follow}
-use Rattle.grammar.specs.Grammar.{RuleOf, startOverEnd}
-use Rattle.grammar.specs.theory.Closed.{all_rest}
-use Rattle.grammar.specs.theory.Firsts.{Fades, all-empty}
-use Rattle.grammar.specs.theory.Follows.{follow-last}
-use Rattle.grammar.specs.theory.RightSides.{right-symbols, rule-at}
-use Rattle.shape.specs.Accessors.{LeftOf, SizeOf, SymbolAt, right-none, right-from}
-use Rattle.base.specs.Telling.{Tells, told, tells-unique}
+use Rattle.grammar.specs.Grammar.{RuleOf, start_over_end}
+use Rattle.grammar.specs.Theory.Closed.{all_rest}
+use Rattle.grammar.specs.Theory.Firsts.{Fades, all_empty}
+use Rattle.grammar.specs.Theory.Follows.{follow_last}
+use Rattle.grammar.specs.Theory.RightSides.{right_symbols, rule_at}
+use Rattle.shape.specs.Accessors.{LeftOf, SizeOf, SymbolAt, right_none, right_from}
+use Rattle.base.specs.Telling.{Tells, told, tells_unique}
 use Rattle.sets.specs.Bits.{member}
 use Rattle.sets.specs.Operations.{with}
-use Rattle.sets.specs.Laws.{empty-none, with-same, with-keeps, with_cases}
+use Rattle.sets.specs.Laws.{empty_none, with_same, with_keeps, with_cases}
 use Rattle.growth.specs.Closing.{Noted}
-use Rattle.firsts.specs.Masks.{number-symbol, null-says}
+use Rattle.firsts.specs.Masks.{number_symbol, null_says}
 
 -- X can be empty, by the mask.
 abbrev pub NullBy : ℕ → ℕ → Type 0
@@ -34,57 +34,57 @@ pub record LastsOf (null : ℕ) (α : List ℕ) (r : ℕ) : Type 0 where
 -- ---- What follows the left side follows them
 
 -- The list in parts: what is in front of X, X, and what can be empty.
-last-parts : {null X : ℕ} {α : List ℕ} → Last null X α → (Q : Type 0)
+last_parts : {null X : ℕ} {α : List ℕ} → Last null X α → (Q : Type 0)
     → ((b c : List ℕ) → α ≡ b ++ (X ∷ c) → All (NullBy null) c → Q) → Q
-last-parts (Last.here {α = α} e a) Q f = f [] α (ap (λ Y. Y ∷ α) (sym e)) a
-last-parts (Last.later {Y = Y} l) Q f = last-parts l Q (λ b c e a. f (Y ∷ b) c (ap (λ w. Y ∷ w) e) a)
+last_parts (Last.here {α = α} e a) Q f = f [] α (ap (λ Y. Y ∷ α) (sym e)) a
+last_parts (Last.later {Y = Y} l) Q f = last_parts l Q (λ b c e a. f (Y ∷ b) c (ap (λ w. Y ∷ w) e) a)
 
-module _ (ws : List ℕ) (s : Shaped ws) (null : ℕ) (nulls : NullMask (RuleOf ws) (nonterminalCount ws) null) where
-  fades : {α : List ℕ} → All (RuleSymbol (terminalCount ws) (nonterminalCount ws)) α → All (NullBy null) α → All (Fades (RuleOf ws)) α
+module _ (ws : List ℕ) (s : Shaped ws) (null : ℕ) (nulls : NullMask (RuleOf ws) (nonterminal_count ws) null) where
+  fades : {α : List ℕ} → All (RuleSymbol (terminal_count ws) (nonterminal_count ws)) α → All (NullBy null) α → All (Fades (RuleOf ws)) α
   fades All.nothing All.nothing = All.nothing
-  fades (All.also {x = X} c a) (All.also n b) = All.also (null-says ws s null nulls X c n.0 n.1) (fades a b)
+  fades (All.also {x = X} c a) (All.also n b) = All.also (null_says ws s null nulls X c n.0 n.1) (fades a b)
 
-  pub last-follow : {p k X t : ℕ} → p < ruleCount ws → LeftOf ws p k → Last null X (rightSide ws p)
-      → Follow (RuleOf ws) startOverEnd (64 + k) t → Follow (RuleOf ws) startOverEnd X t
-  last-follow {p} {X = X} {t = t} h left l f =
-      last-parts l (Follow (RuleOf ws) startOverEnd X t)
+  pub last_follow : {p k X t : ℕ} → p < rule_count ws → LeftOf ws p k → Last null X (right_side ws p)
+      → Follow (RuleOf ws) start_over_end (64 + k) t → Follow (RuleOf ws) start_over_end X t
+  last_follow {p} {X = X} {t = t} h left l f =
+      last_parts l (Follow (RuleOf ws) start_over_end X t)
       (λ b c e a.
-      let behind : All (RuleSymbol (terminalCount ws) (nonterminalCount ws)) (X ∷ c) =
-      all_rest b (subst (All (RuleSymbol (terminalCount ws) (nonterminalCount ws))) e (right-symbols ws s p h)) in
-      follow-last (RuleOf ws) startOverEnd (rule-at ws p h)
-      (subst (λ Y. Follow (RuleOf ws) startOverEnd Y t) (sym left.names) f) b c X e
-      (all-empty (RuleOf ws) (fades (all_rest (X ∷ []) behind) a)))
+      let behind : All (RuleSymbol (terminal_count ws) (nonterminal_count ws)) (X ∷ c) =
+      all_rest b (subst (All (RuleSymbol (terminal_count ws) (nonterminal_count ws))) e (right_symbols ws s p h)) in
+      follow_last (RuleOf ws) start_over_end (rule_at ws p h)
+      (subst (λ Y. Follow (RuleOf ws) start_over_end Y t) (sym left.names) f) b c X e
+      (all_empty (RuleOf ws) (fades (all_rest (X ∷ []) behind) a)))
 
 -- ---- The walk
 
-lasts-none : (null : ℕ) → LastsOf null [] 0
-lasts-none null = record { exact = λ j. (λ m. absurd (empty-none j m), λ l. elim l [ ]) }
+lasts_none : (null : ℕ) → LastsOf null [] 0
+lasts_none null = record { exact = λ j. (λ m. absurd (empty_none j m), λ l. elim l [ ]) }
 
 -- A terminal in front is no nonterminal,
-lasts-token : {null x r : ℕ} {α : List ℕ} → x < 64 → LastsOf null α r → LastsOf null (x ∷ α) r
-lasts-token {null} {x} {r} {α} low f = record { exact = λ j. (λ m. Last.later ((f.exact j).0 m), back j) }
+lasts_token : {null x r : ℕ} {α : List ℕ} → x < 64 → LastsOf null α r → LastsOf null (x ∷ α) r
+lasts_token {null} {x} {r} {α} low f = record { exact = λ j. (λ m. Last.later ((f.exact j).0 m), back j) }
   where
     back : (j : ℕ) → Last null (64 + j) (x ∷ α) → member r j ≡ true
     back j (Last.here e a) = absurd (omega arith)
     back j (Last.later l) = (f.exact j).1 l
 
 -- and a nonterminal in front of what can be empty is another one.
-lasts-name : {null x r : ℕ} {α : List ℕ} → 64 ≤ x → All (NullBy null) α → LastsOf null α r → LastsOf null (x ∷ α) (with r (x - 64))
-lasts-name {null} {x} {r} {α} high a f = record { exact = λ j. (forth j, back j) }
+lasts_name : {null x r : ℕ} {α : List ℕ} → 64 ≤ x → All (NullBy null) α → LastsOf null α r → LastsOf null (x ∷ α) (with r (x - 64))
+lasts_name {null} {x} {r} {α} high a f = record { exact = λ j. (forth j, back j) }
   where
     forth : (j : ℕ) → member (with r (x - 64)) j ≡ true → Last null (64 + j) (x ∷ α)
     forth j m =
-        ⊎_elim (λ e. Last.here (ap (λ n. 64 + n) (sym e) ∙ number-symbol x high) a) (λ h. Last.later ((f.exact j).0 h))
+        ⊎_elim (λ e. Last.here (ap (λ n. 64 + n) (sym e) ∙ number_symbol x high) a) (λ h. Last.later ((f.exact j).0 h))
         (with_cases r (x - 64) j m)
 
     back : (j : ℕ) → Last null (64 + j) (x ∷ α) → member (with r (x - 64)) j ≡ true
     back j (Last.here e b) =
-        let at : x - 64 ≡ j = omega arith in subst (λ n. member (with r (x - 64)) n ≡ true) at (with-same r (x - 64))
-    back j (Last.later l) = with-keeps r (x - 64) j ((f.exact j).1 l)
+        let at : x - 64 ≡ j = omega arith in subst (λ n. member (with r (x - 64)) n ≡ true) at (with_same r (x - 64))
+    back j (Last.later l) = with_keeps r (x - 64) j ((f.exact j).1 l)
 
 -- In front of what cannot be empty nothing more can stand last.
-lasts-behind : {null x r : ℕ} {α : List ℕ} → (All (NullBy null) α → ⊥) → LastsOf null α r → LastsOf null (x ∷ α) r
-lasts-behind {null} {x} {r} {α} stays f = record { exact = λ j. (λ m. Last.later ((f.exact j).0 m), back j) }
+lasts_behind : {null x r : ℕ} {α : List ℕ} → (All (NullBy null) α → ⊥) → LastsOf null α r → LastsOf null (x ∷ α) r
+lasts_behind {null} {x} {r} {α} stays f = record { exact = λ j. (λ m. Last.later ((f.exact j).0 m), back j) }
   where
     back : (j : ℕ) → Last null (64 + j) (x ∷ α) → member r j ≡ true
     back j (Last.here e a) = absurd (stays a)
@@ -100,34 +100,34 @@ pub data NotedLast (old x : ℕ) (ends : Bool) (new : ℕ) : Type 0 where
   terminal : x < 64 → new ≡ old → NotedLast old x ends new
   nonterminal : 64 ≤ x → Noted old (x - 64) ends new → NotedLast old x ends new
 
-pub lasting-begins : {ws : List ℕ} {p n : ℕ} (null : ℕ) → SizeOf ws p n → Lasting null (drop n (rightSide ws p)) 0 true
-lasting-begins null size =
-    subst (λ α. Lasting null α 0 true) (sym (right-none size)) (record { lasts = lasts-none null; empties = told All.nothing })
+pub lasting_begins : {ws : List ℕ} {p n : ℕ} (null : ℕ) → SizeOf ws p n → Lasting null (drop n (right_side ws p)) 0 true
+lasting_begins null size =
+    subst (λ α. Lasting null α 0 true) (sym (right_none size)) (record { lasts = lasts_none null; empties = told All.nothing })
 
-lasting-more : {null x set more : ℕ} {ends next : Bool} {α : List ℕ} → Lasting null α set ends → NotedLast set x ends more
+lasting_more : {null x set more : ℕ} {ends next : Bool} {α : List ℕ} → Lasting null α set ends → NotedLast set x ends more
     → Tells (NullBy null x × (ends ≡ true)) next → Lasting null (x ∷ α) more next
-lasting-more {null} {x} {set} {more} {ends} {next} {α} w noted tells =
+lasting_more {null} {x} {set} {more} {ends} {next} {α} w noted tells =
     record {
       lasts = lasts noted;
       empties = record { yes = λ e. let q = tells.yes e in All.also q.0 (w.empties.yes q.1); no = λ e a. tells.no e (both a) };
     }
   where
     both : All (NullBy null) (x ∷ α) → NullBy null x × (ends ≡ true)
-    both (All.also n a) = (n, sym (tells-unique true ends (told a) w.empties))
+    both (All.also n a) = (n, sym (tells_unique true ends (told a) w.empties))
 
     name : (yes : Bool) → ends ≡ yes → 64 ≤ x → Noted set (x - 64) ends more → LastsOf null (x ∷ α) more
-    name true e high n = subst (LastsOf null (x ∷ α)) (sym (n.noted e)) (lasts-name high (w.empties.yes e) w.lasts)
-    name false e high n = subst (LastsOf null (x ∷ α)) (sym (n.same e)) (lasts-behind (w.empties.no e) w.lasts)
+    name true e high n = subst (LastsOf null (x ∷ α)) (sym (n.noted e)) (lasts_name high (w.empties.yes e) w.lasts)
+    name false e high n = subst (LastsOf null (x ∷ α)) (sym (n.same e)) (lasts_behind (w.empties.no e) w.lasts)
 
     lasts : NotedLast set x ends more → LastsOf null (x ∷ α) more
-    lasts (NotedLast.terminal low e) = subst (LastsOf null (x ∷ α)) (sym e) (lasts-token low w.lasts)
+    lasts (NotedLast.terminal low e) = subst (LastsOf null (x ∷ α)) (sym e) (lasts_token low w.lasts)
     lasts (NotedLast.nonterminal high n) = name ends refl high n
 
-pub lasting-goes : {ws : List ℕ} {null p i x set more : ℕ} {ends next : Bool} → Lasting null (drop i (rightSide ws p)) set ends → 0 < i
-    → i ≤ length (rightSide ws p) → SymbolAt ws p (i - 1) x → NotedLast set x ends more → Tells (NullBy null x × (ends ≡ true)) next
-    → Lasting null (drop (i - 1) (rightSide ws p)) more next
-lasting-goes {null = null} {more = more} {next = next} w l inside at noted tells =
-    subst (λ α. Lasting null α more next) (sym (right-from l inside at)) (lasting-more w noted tells)
+pub lasting_goes : {ws : List ℕ} {null p i x set more : ℕ} {ends next : Bool} → Lasting null (drop i (right_side ws p)) set ends → 0 < i
+    → i ≤ length (right_side ws p) → SymbolAt ws p (i - 1) x → NotedLast set x ends more → Tells (NullBy null x × (ends ≡ true)) next
+    → Lasting null (drop (i - 1) (right_side ws p)) more next
+lasting_goes {null = null} {more = more} {next = next} w l inside at noted tells =
+    subst (λ α. Lasting null α more next) (sym (right_from l inside at)) (lasting_more w noted tells)
 
-pub lasting-ends : (α : List ℕ) {null i set : ℕ} {ends : Bool} → Lasting null (drop i α) set ends → i ≡ 0 → LastsOf null α set
-lasting-ends α {null} {set = set} w e = subst (λ n. LastsOf null (drop n α) set) e w.lasts
+pub lasting_ends : (α : List ℕ) {null i set : ℕ} {ends : Bool} → Lasting null (drop i α) set ends → i ≡ 0 → LastsOf null α set
+lasting_ends α {null} {set = set} w e = subst (λ n. LastsOf null (drop n α) set) e w.lasts

@@ -2,7 +2,7 @@
 // is reachable. END is in FOLLOW(START). Each rule is visited once, and then a list has the nonterminals whose set must be passed on
 // (request (v)).
 ghost use Rattle.std.specs.Prelude.{◌≡◌, true, ◌<◌, length};
-ghost use Rattle.grammar.specs.Words.{ruleCount};
+ghost use Rattle.grammar.specs.Words.{rule_count};
 ghost use Rattle.base.specs.Telling.{Tells};
 ghost use Rattle.base.specs.Blank.{Blank};
 ghost use Rattle.follows.specs.Follows.{FollowsOf, Needed, SoundFollows};
@@ -61,7 +61,7 @@ fn feed_rule(
     out: &mut [u64],
 ) -> u64
     requires needed { Needed words.now places.now null firsts.now out.old }
-    requires p_bound { p < ruleCount words.now }
+    requires p_bound { p < rule_count words.now }
     requires sound_follows { SoundFollows words.now out.old }
     ensures { RuleFed words.now null firsts.now p out.old out.new result }
 {

@@ -6,16 +6,16 @@ use Rattle.grammar.specs.Words.{Terminal}
 use Rattle.grammar.specs.Derivation.{Rules, Yields}
 
 -- The cost of a terminal string.
-unfoldable pub stringCost : (ℕ → ℕ) → List ℕ → ℕ
-stringCost price [] = 0
-stringCost price (t ∷ w) = price t + stringCost price w
+unfoldable pub string_cost : (ℕ → ℕ) → List ℕ → ℕ
+string_cost price [] = 0
+string_cost price (t ∷ w) = price t + string_cost price w
 
 -- The cost of nonterminal A is c: some terminal string that A derives costs c, and none costs less.
 pub record Cheapest (R : Rules) (price : ℕ → ℕ) (A c : ℕ) : Type 0 where
   pub string : List ℕ
   pub yields : Yields R (A ∷ []) string
-  pub costs : stringCost price string ≡ c
-  pub least : (w : List ℕ) → Yields R (A ∷ []) w → c ≤ stringCost price w
+  pub costs : string_cost price string ≡ c
+  pub least : (w : List ℕ) → Yields R (A ∷ []) w → c ≤ string_cost price w
 
 -- The cost of symbol X is c.
 pub data SymbolCost (R : Rules) (price : ℕ → ℕ) (X c : ℕ) : Type 0 where

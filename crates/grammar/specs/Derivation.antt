@@ -60,7 +60,7 @@ pub record Productive (R : Rules) (A : ℕ) : Type 0 where
 -- where the right side can be empty".
 pub data Predict (R : Rules) (begin : List ℕ) (A : ℕ) (β : List ℕ) (t : ℕ) : Type 0 where
   by_first : First R β t → Predict R begin A β t
-  by-follow : CanBeEmpty R β → Follow R begin A t → Predict R begin A β t
+  by_follow : CanBeEmpty R β → Follow R begin A t → Predict R begin A β t
 
 -- "No two rules of one nonterminal share a predict token": two rules of A that have t in common are one rule.
 abbrev pub NoneShared : Rules → List ℕ → Type 0

@@ -10,33 +10,33 @@ abbrev pub pair_at : List ℕ → ℕ → ℕ
 pair_at bytes at = get_or bytes at 0 + 256 * get_or bytes (at + 1) 0
 
 -- How many blocks a file has.
-abbrev pub blockCount : List ℕ → ℕ
-blockCount bytes = length bytes / 512
+abbrev pub block_count : List ℕ → ℕ
+block_count bytes = length bytes / 512
 
 -- "Bytes 0-1: block number, from 0."
-abbrev pub blockNumber : List ℕ → ℕ → ℕ
-blockNumber bytes k = pair_at bytes (512 * k)
+abbrev pub block_number : List ℕ → ℕ → ℕ
+block_number bytes k = pair_at bytes (512 * k)
 
 -- "Bytes 2-3: words used."
-abbrev pub wordsUsed : List ℕ → ℕ → ℕ
-wordsUsed bytes k = pair_at bytes (512 * k + 2)
+abbrev pub words_used : List ℕ → ℕ → ℕ
+words_used bytes k = pair_at bytes (512 * k + 2)
 
 -- "Bytes 4-509: 253 words": word i of block k.
-abbrev pub blockWord : List ℕ → ℕ → ℕ → ℕ
-blockWord bytes k i = pair_at bytes (512 * k + 4 + 2 * i)
+abbrev pub block_word : List ℕ → ℕ → ℕ → ℕ
+block_word bytes k i = pair_at bytes (512 * k + 4 + 2 * i)
 
 -- The check that stands in "bytes 510-511".
-abbrev pub storedCheck : List ℕ → ℕ → ℕ
-storedCheck bytes k = pair_at bytes (512 * k + 510)
+abbrev pub stored_check : List ℕ → ℕ → ℕ
+stored_check bytes k = pair_at bytes (512 * k + 510)
 
 -- The sum over bytes 0 to n - 1 from a place on of (i + 1) x byte i.
-unfoldable pub weightedSum : List ℕ → ℕ → ℕ → ℕ
-weightedSum bytes at zero = 0
-weightedSum bytes at (suc i) = weightedSum bytes at i + (i + 1) * get_or bytes (at + i) 0
+unfoldable pub weighted_sum : List ℕ → ℕ → ℕ → ℕ
+weighted_sum bytes at zero = 0
+weighted_sum bytes at (suc i) = weighted_sum bytes at i + (i + 1) * get_or bytes (at + i) 0
 
 -- "The sum over bytes i = 0..509 of (i + 1) x byte i, modulo 65,521."
 abbrev pub block_check : List ℕ → ℕ → ℕ
-block_check bytes k = weightedSum bytes (512 * k) 510 % 65521
+block_check bytes k = weighted_sum bytes (512 * k) 510 % 65521
 
 -- Words used: "exactly 253 in every block but the last, 1 to 253 there".
 pub data UseCount (count k used : ℕ) : Type 0 where
@@ -45,23 +45,23 @@ pub data UseCount (count k used : ℕ) : Type 0 where
 
 -- Block number, use count and unused words of block k are right.
 pub record BlockFields (bytes : List ℕ) (k : ℕ) : Type 0 where
-  pub number : blockNumber bytes k ≡ k
-  pub use-count : UseCount (blockCount bytes) k (wordsUsed bytes k)
-  pub unused : (i : ℕ) → wordsUsed bytes k ≤ i → i < 253 → blockWord bytes k i ≡ 0
+  pub number : block_number bytes k ≡ k
+  pub use_count : UseCount (block_count bytes) k (words_used bytes k)
+  pub unused : (i : ℕ) → words_used bytes k ≤ i → i < 253 → block_word bytes k i ≡ 0
 
 -- n words from a byte on.
-unfoldable pub wordsFrom : List ℕ → ℕ → ℕ → List ℕ
-wordsFrom bytes at zero = []
-wordsFrom bytes at (suc n) = pair_at bytes at ∷ wordsFrom bytes (at + 2) n
+unfoldable pub words_from : List ℕ → ℕ → ℕ → List ℕ
+words_from bytes at zero = []
+words_from bytes at (suc n) = pair_at bytes at ∷ words_from bytes (at + 2) n
 
 -- The used words of the first k blocks, in order.
-unfoldable pub wordsOfBlocks : List ℕ → ℕ → List ℕ
-wordsOfBlocks bytes zero = []
-wordsOfBlocks bytes (suc k) = wordsOfBlocks bytes k ++ wordsFrom bytes (512 * k + 4) (wordsUsed bytes k)
+unfoldable pub words_of_blocks : List ℕ → ℕ → List ℕ
+words_of_blocks bytes zero = []
+words_of_blocks bytes (suc k) = words_of_blocks bytes k ++ words_from bytes (512 * k + 4) (words_used bytes k)
 
 -- The words that a file holds.
-abbrev pub fileWords : List ℕ → List ℕ
-fileWords bytes = wordsOfBlocks bytes (blockCount bytes)
+abbrev pub file_words : List ℕ → List ℕ
+file_words bytes = words_of_blocks bytes (block_count bytes)
 
 -- "Empty, not a multiple of 512, or over 5,632 bytes" is refused.
 pub record FileSize (size : ℕ) : Type 0 where
@@ -71,18 +71,18 @@ pub record FileSize (size : ℕ) : Type 0 where
 
 -- Each block has the property.
 abbrev pub EachBlock : List ℕ → (ℕ → Type 0) → Type 0
-EachBlock bytes P = (k : ℕ) → k < blockCount bytes → P k
+EachBlock bytes P = (k : ℕ) → k < block_count bytes → P k
 
 -- The reader's conditions; `room` is the word buffer's length.
-abbrev pub fileConditions : List ℕ → ℕ → List Condition
-fileConditions bytes room =
+abbrev pub file_conditions : List ℕ → ℕ → List Condition
+file_conditions bytes room =
     (BadSize unless FileSize (length bytes))
-    ∷ (BadCheck unless EachBlock bytes (λ k. storedCheck bytes k ≡ block_check bytes k))
+    ∷ (BadCheck unless EachBlock bytes (λ k. stored_check bytes k ≡ block_check bytes k))
     ∷ (BadBlock unless EachBlock bytes (BlockFields bytes))
-    ∷ (ShortWords unless (length (fileWords bytes) ≤ room))
+    ∷ (ShortWords unless (length (file_words bytes) ≤ room))
     ∷ []
 
 -- "Reading yields the words in order and their number; words of the buffer behind them become zero." The reader's
 -- answer, a number of words or a refusal, and the buffer afterwards.
 pub record FileRead (bytes : List ℕ) (room : ℕ) (answer : Outcome ℕ) (buffer : List ℕ) : Type 0 where
-  pub read : Fills (fileConditions bytes room) room (fileWords bytes) answer buffer
+  pub read : Fills (file_conditions bytes room) room (file_words bytes) answer buffer

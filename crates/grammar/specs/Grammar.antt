@@ -6,17 +6,17 @@ use Rattle.grammar.specs.Words.{
   END,
   RuleSymbol,
   Shaped,
-  terminalCount,
-  nonterminalCount,
-  ruleCount,
-  leftSide,
-  rightSide,
-  insertCost,
+  terminal_count,
+  nonterminal_count,
+  rule_count,
+  left_side,
+  right_side,
+  insert_cost,
   reliability,
   opening,
   closing,
-  restartMark,
-  tickUnit,
+  restart_mark,
+  tick_unit,
 }
 use Rattle.grammar.specs.Derivation.{Rules, Reachable, Productive, NoneShared}
 use Rattle.grammar.specs.Cost.{Cheapest}
@@ -39,9 +39,9 @@ pub record Grammar : Type 1 where
 
 -- Rule p of the words rewrites A to β. "Rules are numbered from 0."
 pub record RuleOf (ws : List ℕ) (p A : ℕ) (β : List ℕ) : Type 0 where
-  pub counted : p < ruleCount ws
-  pub left : A ≡ leftSide ws p
-  pub right : β ≡ rightSide ws p
+  pub counted : p < rule_count ws
+  pub left : A ≡ left_side ws p
+  pub right : β ≡ right_side ws p
 
 -- A cost of c is strictly below the reliability of token t; END's "counts as unlimited".
 pub data Reliable (ws : List ℕ) (c t : ℕ) : Type 0 where
@@ -49,16 +49,16 @@ pub data Reliable (ws : List ℕ) (c t : ℕ) : Type 0 where
   limited : c < reliability ws t → Reliable ws c t
 
 -- "The stack begins as START over END."
-abbrev pub startOverEnd : List ℕ
-startOverEnd = START ∷ END ∷ []
+abbrev pub start_over_end : List ℕ
+start_over_end = START ∷ END ∷ []
 
 -- The grammar that the words are.
-abbrev pub grammarOf : List ℕ → Grammar
-grammarOf ws = record {
-  known = RuleSymbol (terminalCount ws) (nonterminalCount ws);
+abbrev pub grammar_of : List ℕ → Grammar
+grammar_of ws = record {
+  known = RuleSymbol (terminal_count ws) (nonterminal_count ws);
   rules = RuleOf ws;
-  begin = startOverEnd;
-  price = insertCost ws;
+  begin = start_over_end;
+  price = insert_cost ws;
   reliable = Reliable ws;
 }
 
@@ -74,12 +74,12 @@ Each N P = (k : ℕ) → k < N → P (64 + k)
 
 -- Each nonterminal of the words has it.
 abbrev pub EachNonterminal : List ℕ → (ℕ → Type 0) → Type 0
-EachNonterminal ws P = Each (nonterminalCount ws) P
+EachNonterminal ws P = Each (nonterminal_count ws) P
 
 -- The conditions: "the words have the shape above; every nonterminal is reachable from START; every nonterminal derives some
 -- terminal string; none costs more than 60,000; no two rules of one nonterminal share a predict token".
-abbrev pub conditionsOf : Type 0 → ℕ → Grammar → List Condition
-conditionsOf Shape N G =
+abbrev pub conditions_of : Type 0 → ℕ → Grammar → List Condition
+conditions_of Shape N G =
     (BadShape unless Shape)
     ∷ (Unreachable unless Each N (Reachable G.rules (START ∷ [])))
     ∷ (NoString unless Each N (Productive G.rules))
@@ -88,8 +88,8 @@ conditionsOf Shape N G =
     ∷ []
 
 -- Those of the words.
-abbrev pub grammarConditions : List ℕ → List Condition
-grammarConditions ws = conditionsOf (Shaped ws) (nonterminalCount ws) (grammarOf ws)
+abbrev pub grammar_conditions : List ℕ → List Condition
+grammar_conditions ws = conditions_of (Shaped ws) (nonterminal_count ws) (grammar_of ws)
 
 -- What words mean: all that an answer to them depends on. Request (vi) of 02 speaks of it, "old words mean what they meant".
 pub record Meaning : Type 1 where
@@ -106,16 +106,16 @@ pub record Meaning : Type 1 where
   pub unit : ℕ
 
 -- What these words mean.
-abbrev pub meaningOf : List ℕ → Meaning
-meaningOf ws = record {
-  conditions = grammarConditions ws;
-  terminals = terminalCount ws;
-  nonterminals = nonterminalCount ws;
-  grammar = grammarOf ws;
+abbrev pub meaning_of : List ℕ → Meaning
+meaning_of ws = record {
+  conditions = grammar_conditions ws;
+  terminals = terminal_count ws;
+  nonterminals = nonterminal_count ws;
+  grammar = grammar_of ws;
   opening = opening ws;
   closing = closing ws;
-  restart = restartMark ws;
-  unit = tickUnit ws;
+  restart = restart_mark ws;
+  unit = tick_unit ws;
 }
 
 -- The verdict: none where the words are accepted, else the lowest refusal of 5 to 9 that applies.
@@ -124,4 +124,4 @@ VerdictBy M o = Lowest M.conditions o
 
 -- The verdict on the words.
 abbrev pub Verdict : List ℕ → Option Refusal → Type 0
-Verdict ws o = VerdictBy (meaningOf ws) o
+Verdict ws o = VerdictBy (meaning_of ws) o

@@ -15,6 +15,6 @@ pub mod Marks
 pub mod MarkLines
 pub mod Refusals
 -- What follows from them. Nothing above uses anything of these.
-pub mod theory
-pub mod model
-pub mod cases
+pub mod Theory
+pub mod Model
+pub mod Cases

@@ -17,27 +17,27 @@ use Rattle.grammar.specs.declared.Counts.{Counts}
 -- ---- Standard input: "a u16 block count (1..11), that many blocks, then entries of six bytes, .. to the end"
 
 -- The block count.
-abbrev pub blocksNamed : List ℕ → ℕ
-blocksNamed input = pair_at input 0
+abbrev pub blocks_named : List ℕ → ℕ
+blocks_named input = pair_at input 0
 
 -- Where the blocks end and the entries begin.
-abbrev pub blocksEnd : List ℕ → ℕ
-blocksEnd input = 2 + 512 * blocksNamed input
+abbrev pub blocks_end : List ℕ → ℕ
+blocks_end input = 2 + 512 * blocks_named input
 
 -- None of "a bad count, a count cut short, no input or missing blocks", which print refusal 1.
 pub record Counted (input : List ℕ) : Type 0 where
   pub whole : 2 ≤ length input
-  pub low : 1 ≤ blocksNamed input
-  pub high : blocksNamed input ≤ 11
-  pub present : blocksEnd input ≤ length input
+  pub low : 1 ≤ blocks_named input
+  pub high : blocks_named input ≤ 11
+  pub present : blocks_end input ≤ length input
 
 -- The grammar file: the blocks.
-unfoldable pub fileOf : List ℕ → List ℕ
-fileOf input = take (512 * blocksNamed input) (drop 2 input)
+unfoldable pub file_of : List ℕ → List ℕ
+file_of input = take (512 * blocks_named input) (drop 2 input)
 
 -- The little endian number of four bytes.
-abbrev pub quadAt : List ℕ → ℕ → ℕ
-quadAt bytes at = pair_at bytes at + 65536 * pair_at bytes (at + 2)
+abbrev pub quad_at : List ℕ → ℕ → ℕ
+quad_at bytes at = pair_at bytes at + 65536 * pair_at bytes (at + 2)
 
 -- What n "entries of six bytes" from a byte on hold, where `value` gives it for the entry at a byte.
 unfoldable pub entries_at : (ℕ → ℕ) → ℕ → ℕ → List ℕ
@@ -45,32 +45,32 @@ entries_at value at zero = []
 entries_at value at (suc n) = value at ∷ entries_at value (at + 6) n
 
 -- "Token u16 and tick u32": those of the entry at a byte.
-abbrev pub tokenAt : List ℕ → ℕ → ℕ
-tokenAt bytes at = pair_at bytes at
+abbrev pub token_at : List ℕ → ℕ → ℕ
+token_at bytes at = pair_at bytes at
 
-abbrev pub tickAt : List ℕ → ℕ → ℕ
-tickAt bytes at = quadAt bytes (at + 2)
+abbrev pub tick_at : List ℕ → ℕ → ℕ
+tick_at bytes at = quad_at bytes (at + 2)
 
 -- How many entries are begun from a byte to the end, and how many of them are whole.
-abbrev pub begunEntries : List ℕ → ℕ → ℕ
-begunEntries bytes at = (length bytes - at + 5) / 6
+abbrev pub begun_entries : List ℕ → ℕ → ℕ
+begun_entries bytes at = (length bytes - at + 5) / 6
 
-abbrev pub wholeEntries : List ℕ → ℕ → ℕ
-wholeEntries bytes at = (length bytes - at) / 6
+abbrev pub whole_entries : List ℕ → ℕ → ℕ
+whole_entries bytes at = (length bytes - at) / 6
 
 -- The tokens and the ticks from a byte to the end. "A last entry cut short counts under refusal 10": it is a token without
 -- its tick, so that ticks and tokens differ in number.
-abbrev pub tokensFrom : List ℕ → ℕ → List ℕ
-tokensFrom bytes at = entries_at (tokenAt bytes) at (begunEntries bytes at)
+abbrev pub tokens_from : List ℕ → ℕ → List ℕ
+tokens_from bytes at = entries_at (token_at bytes) at (begun_entries bytes at)
 
-abbrev pub ticksFrom : List ℕ → ℕ → List ℕ
-ticksFrom bytes at = entries_at (tickAt bytes) at (wholeEntries bytes at)
+abbrev pub ticks_from : List ℕ → ℕ → List ℕ
+ticks_from bytes at = entries_at (tick_at bytes) at (whole_entries bytes at)
 
-abbrev pub tokensOf : List ℕ → List ℕ
-tokensOf input = tokensFrom input (blocksEnd input)
+abbrev pub tokens_of : List ℕ → List ℕ
+tokens_of input = tokens_from input (blocks_end input)
 
-abbrev pub ticksOf : List ℕ → List ℕ
-ticksOf input = ticksFrom input (blocksEnd input)
+abbrev pub ticks_of : List ℕ → List ℕ
+ticks_of input = ticks_from input (blocks_end input)
 
 -- ---- The lines
 
@@ -102,52 +102,52 @@ abbrev pub newline : List ℕ
 newline = 10 ∷ []
 
 -- "A refusal prints one line, `refused` and the number."
-unfoldable pub refusedLine : ℕ → List ℕ
-refusedLine number = field "refused " number ++ newline
+unfoldable pub refused_line : ℕ → List ℕ
+refused_line number = field "refused " number ++ newline
 
 -- "The first line has n, moves, edit records and rule numbers listed."
-unfoldable pub okLine : ℕ → Counts → List ℕ
-okLine n c =
+unfoldable pub ok_line : ℕ → Counts → List ℕ
+ok_line n c =
     field "ok tokens " n ++ (field " moves " c.moves ++ (field " edits " c.records ++ (field " rules " c.listed ++ newline)))
 
 -- A record's kind: "1 delete, 2 insert".
-unfoldable pub kindWord : ℕ → String
-kindWord kind = cond (eqb kind 1) "delete " "insert "
+unfoldable pub kind_word : ℕ → String
+kind_word kind = cond (eqb kind 1) "delete " "insert "
 
 -- "An edit line has kind, place and symbol."
-unfoldable pub editLine : Edit → List ℕ
-editLine e = field (kindWord e.kind) e.place ++ (field " " e.symbol ++ newline)
+unfoldable pub edit_line : Edit → List ℕ
+edit_line e = field (kind_word e.kind) e.place ++ (field " " e.symbol ++ newline)
 
-unfoldable pub editLines : List Edit → List ℕ
-editLines [] = []
-editLines (e ∷ es) = editLine e ++ editLines es
+unfoldable pub edit_lines : List Edit → List ℕ
+edit_lines [] = []
+edit_lines (e ∷ es) = edit_line e ++ edit_lines es
 
 -- "The last line has count and sum, or `pace idle`."
-unfoldable pub paceLine : ℕ → ℕ → Pace → List ℕ
-paceLine count sum Idle = ascii "pace idle" ++ newline
-paceLine count sum (Mean mean) = field "pace cycles " count ++ (field " ms " sum ++ newline)
+unfoldable pub pace_line : ℕ → ℕ → Pace → List ℕ
+pace_line count sum Idle = ascii "pace idle" ++ newline
+pace_line count sum (Mean mean) = field "pace cycles " count ++ (field " ms " sum ++ newline)
 
 -- The listing of a log of n tokens that is not refused.
 unfoldable pub listing : ℕ → Counts → List Edit → Report → List ℕ
-listing n counts records report = okLine n counts ++ (editLines records ++ paceLine report.count report.sum report.pace)
+listing n counts records report = ok_line n counts ++ (edit_lines records ++ pace_line report.count report.sum report.pace)
 
 -- ---- Which listing an input gets: the lowest refusal of the input, the reader and the report, in the table's order, or the
 -- listing of the run. The program "lends 2,783 words for the grammar, 24,576 for edits and 16,384 for rules".
 
 pub data Printed (input : List ℕ) : List ℕ → Type 0 where
   -- The input is refused by 1,
-  uncounted : (Counted input → ⊥) → Printed input (refusedLine (number_of BadSize))
+  uncounted : (Counted input → ⊥) → Printed input (refused_line (number_of BadSize))
   -- or the file by 1 to 4,
-  unread : {r : Refusal} {words : List ℕ} → Counted input → FileRead (fileOf input) 2783 (refused r) words
-      → Printed input (refusedLine (number_of r))
+  unread : {r : Refusal} {words : List ℕ} → Counted input → FileRead (file_of input) 2783 (refused r) words
+      → Printed input (refused_line (number_of r))
   -- or the first n words of the buffer, which are the file's, with the tokens and ticks, by 5 to 12,
-  unreported : {n : ℕ} {r : Refusal} {words editBuffer ruleBuffer : List ℕ} → Counted input
-      → FileRead (fileOf input) 2783 (given n) words
-      → Reported (take n words) (tokensOf input) (ticksOf input) 24576 16384 (refused r) editBuffer ruleBuffer
-      → Printed input (refusedLine (number_of r))
+  unreported : {n : ℕ} {r : Refusal} {words edit_buffer rule_buffer : List ℕ} → Counted input
+      → FileRead (file_of input) 2783 (given n) words
+      → Reported (take n words) (tokens_of input) (ticks_of input) 24576 16384 (refused r) edit_buffer rule_buffer
+      → Printed input (refused_line (number_of r))
   -- or the run has made the moves ms and ended.
-  listed : {n : ℕ} {words editBuffer ruleBuffer : List ℕ} {report : Report} {counts : Counts} {ms : List Move} → Counted input
-      → FileRead (fileOf input) 2783 (given n) words
-      → (reported : Reported (take n words) (tokensOf input) (ticksOf input) 24576 16384 (given (report, counts)) editBuffer ruleBuffer)
+  listed : {n : ℕ} {words edit_buffer rule_buffer : List ℕ} {report : Report} {counts : Counts} {ms : List Move} → Counted input
+      → FileRead (file_of input) 2783 (given n) words
+      → (reported : Reported (take n words) (tokens_of input) (ticks_of input) 24576 16384 (given (report, counts)) edit_buffer rule_buffer)
       → reported.outcome ≡ given ms
-      → Printed input (listing (length (tokensOf input)) counts (edits ms) report)
+      → Printed input (listing (length (tokens_of input)) counts (edits ms) report)

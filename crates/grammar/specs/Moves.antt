@@ -26,28 +26,28 @@ edits (delete p t ∷ ms) = record { kind = 1; place = p; symbol = t } ∷ edits
 edits (insert p X ∷ ms) = record { kind = 2; place = p; symbol = X } ∷ edits ms
 
 -- The records as words.
-unfoldable pub editWords : List Edit → List ℕ
-editWords [] = []
-editWords (e ∷ es) = e.kind ∷ e.place ∷ e.symbol ∷ editWords es
+unfoldable pub edit_words : List Edit → List ℕ
+edit_words [] = []
+edit_words (e ∷ es) = e.kind ∷ e.place ∷ e.symbol ∷ edit_words es
 
 -- The rule numbers listed: an expand's "rule number is listed", a drop has "nothing listed".
-unfoldable pub ruleNumbers : List Move → List ℕ
-ruleNumbers [] = []
-ruleNumbers (match p t ∷ ms) = ruleNumbers ms
-ruleNumbers (expand q ∷ ms) = q ∷ ruleNumbers ms
-ruleNumbers (drop X ∷ ms) = ruleNumbers ms
-ruleNumbers (delete p t ∷ ms) = ruleNumbers ms
-ruleNumbers (insert p X ∷ ms) = ruleNumbers ms
+unfoldable pub rule_numbers : List Move → List ℕ
+rule_numbers [] = []
+rule_numbers (match p t ∷ ms) = rule_numbers ms
+rule_numbers (expand q ∷ ms) = q ∷ rule_numbers ms
+rule_numbers (drop X ∷ ms) = rule_numbers ms
+rule_numbers (delete p t ∷ ms) = rule_numbers ms
+rule_numbers (insert p X ∷ ms) = rule_numbers ms
 
 -- A token of the log as a list: END is none.
-unfoldable pub logToken : ℕ → List ℕ
-logToken zero = []
-logToken (suc t) = suc t ∷ []
+unfoldable pub log_token : ℕ → List ℕ
+log_token zero = []
+log_token (suc t) = suc t ∷ []
 
 -- "The repaired log is the log without deleted tokens and with inserted symbols put before place r."
 unfoldable pub repaired : List Move → List ℕ
 repaired [] = []
-repaired (match p t ∷ ms) = logToken t ++ repaired ms
+repaired (match p t ∷ ms) = log_token t ++ repaired ms
 repaired (expand q ∷ ms) = repaired ms
 repaired (drop X ∷ ms) = repaired ms
 repaired (delete p t ∷ ms) = repaired ms

@@ -3,12 +3,12 @@
 use Rattle.std.specs.Prelude.{ℕ, ◌+◌, ◌*◌, ◌≤◌, ◌<◌, ◌≡◌, cond, length, get_or, take, drop, leb, ltb}
 use mathlib.Core.List.{List, [], ◌∷◌, ◌++◌, tail}
 use Rattle.std.proofs.Math.Option.{Option, none, some}
-use Rattle.grammar.specs.Words.{END, terminalCount}
+use Rattle.grammar.specs.Words.{END, terminal_count}
 use Rattle.grammar.specs.Derivation.{Rules, First, CanBeEmpty}
 use Rattle.grammar.specs.Cost.{ListCost}
-use Rattle.grammar.specs.Grammar.{Grammar, grammarOf, Meaning, meaningOf}
+use Rattle.grammar.specs.Grammar.{Grammar, grammar_of, Meaning, meaning_of}
 use Rattle.grammar.specs.Buffers.{filled, cleared}
-use Rattle.grammar.specs.Moves.{Move, edits, editWords, ruleNumbers}
+use Rattle.grammar.specs.Moves.{Move, edits, edit_words, rule_numbers}
 use Rattle.grammar.specs.Refusals.{Condition, ◌unless◌, Lowest, Outcome, given, refused}
 use Rattle.grammar.specs.declared.Refusal.{Refusal}
 use Rattle.grammar.specs.declared.Counts.{Counts}
@@ -30,8 +30,8 @@ pub record Plausible (G : Grammar) (stack : List ℕ) (t i : ℕ) : Type 0 where
 pub record Hit (G : Grammar) (stack rest : List ℕ) (j i : ℕ) : Type 0 where
   pub within : j < length rest
   pub plausible : Plausible G stack (get_or rest j END) i
-  pub least-r : (h k : ℕ) → h < j → Plausible G stack (get_or rest h END) k → ⊥
-  pub least-i : (k : ℕ) → k < i → Plausible G stack (get_or rest j END) k → ⊥
+  pub least_r : (h k : ℕ) → h < j → Plausible G stack (get_or rest h END) k → ⊥
+  pub least_i : (k : ℕ) → k < i → Plausible G stack (get_or rest j END) k → ⊥
 
 -- ---- What a correction pops
 
@@ -112,7 +112,7 @@ made s (correcting j i ps) = deletes s.place (take j s.rest) ++ pops (s.place + 
 -- A state with another stack, place and rest, in which what the moves list is counted.
 abbrev pub counting : State → List Move → List ℕ → ℕ → List ℕ → State
 counting s ms σ p ρ =
-    record { stack = σ; place = p; rest = ρ; records = s.records + length (edits ms); listed = s.listed + length (ruleNumbers ms) }
+    record { stack = σ; place = p; rest = ρ; records = s.records + length (edits ms); listed = s.listed + length (rule_numbers ms) }
 
 -- The state behind them: "one pop, next token"; "one pop, the right side is pushed"; "one pop"; "one pop each. Token r is then
 -- current".
@@ -125,8 +125,8 @@ next s (correcting j i ps) = counting s (made s (correcting j i ps)) (drop i s.s
 -- What bounds a run: the most symbols on the stack, and the lengths of the edit buffer and the rule buffer in words.
 pub record Limits : Type 0 where
   pub height : ℕ
-  pub editRoom : ℕ
-  pub ruleRoom : ℕ
+  pub edit_room : ℕ
+  pub rule_room : ℕ
 
 -- The refusal that a choice meets. 11: "an expand would leave more than 256 symbols on the stack, END counted"; 12: "the
 -- next rule number or edit record does not fit", a record where not all three words fit; "an expand tests 11 first". One of the
@@ -135,9 +135,9 @@ unfoldable pub limit : Limits → State → Pick → Option Refusal
 limit L s matching = none
 limit L s (expanding p β) =
     cond (ltb L.height (length (next s (expanding p β)).stack)) (some StackFull)
-    (cond (leb (next s (expanding p β)).listed L.ruleRoom) none (some NoRoom))
+    (cond (leb (next s (expanding p β)).listed L.rule_room) none (some NoRoom))
 limit L s dropping = none
-limit L s (correcting j i ps) = cond (leb (3 * (next s (correcting j i ps)).records) L.editRoom) none (some NoRoom)
+limit L s (correcting j i ps) = cond (leb (3 * (next s (correcting j i ps)).records) L.edit_room) none (some NoRoom)
 
 -- ---- The run
 
@@ -159,27 +159,27 @@ pub record LogBelow (T : ℕ) (log : List ℕ) : Type 0 where
 
 -- The log fits the words.
 abbrev pub LogFits : List ℕ → List ℕ → Type 0
-LogFits ws log = LogBelow (terminalCount ws) log
+LogFits ws log = LogBelow (terminal_count ws) log
 
 -- What a caller of the run asks besides, before it: under refusal 10, and in conditions that are tested behind that.
 pub record Asks : Type 1 where
-  pub under-10 : Type 0
-  pub behind-10 : List Condition
+  pub under_10 : Type 0
+  pub behind_10 : List Condition
 
 -- Something under 10 only; the parser asks nothing.
 abbrev pub only10 : Type 0 → Asks
-only10 P = record { under-10 = P; behind-10 = [] }
+only10 P = record { under_10 = P; behind_10 = [] }
 
 abbrev pub no_more : Asks
 no_more = only10 (Unit {0})
 
 -- The conditions before a run: refusals 5 to 9, those of the grammar check; then 10, the log; each with what else its caller asks.
-abbrev pub conditionsBefore : Meaning → List ℕ → Asks → List Condition
-conditionsBefore M log Asked = M.conditions ++ ((BadLog unless (LogBelow M.terminals log × Asked.under-10)) ∷ Asked.behind-10)
+abbrev pub conditions_before : Meaning → List ℕ → Asks → List Condition
+conditions_before M log Asked = M.conditions ++ ((BadLog unless (LogBelow M.terminals log × Asked.under_10)) ∷ Asked.behind_10)
 
 -- Those of the words.
-abbrev pub runConditions : List ℕ → List ℕ → Asks → List Condition
-runConditions ws log Asked = conditionsBefore (meaningOf ws) log Asked
+abbrev pub run_conditions : List ℕ → List ℕ → Asks → List Condition
+run_conditions ws log Asked = conditions_before (meaning_of ws) log Asked
 
 -- What a run comes to: its moves; or the lowest refusal that applies before it; or the refusal that it meets.
 pub data Settled (cs : List Condition) (Runs : List Move → Option Refusal → Type 0) : Outcome (List Move) → Type 0 where
@@ -189,19 +189,19 @@ pub data Settled (cs : List Condition) (Runs : List Move → Option Refusal → 
 
 -- The run of a log by the grammar, from its first stack, with at most 256 symbols on the stack and the room of the two lent buffers.
 abbrev pub RunBy : Grammar → List ℕ → ℕ → ℕ → List Move → Option Refusal → Type 0
-RunBy G log editRoom ruleRoom =
-    Run G (record { height = 256; editRoom = editRoom; ruleRoom = ruleRoom }) (started G.begin log)
+RunBy G log edit_room rule_room =
+    Run G (record { height = 256; edit_room = edit_room; rule_room = rule_room }) (started G.begin log)
 
 -- The run by the words' grammar, which begins with START over END.
 abbrev pub RunOf : List ℕ → List ℕ → ℕ → ℕ → List Move → Option Refusal → Type 0
-RunOf ws = RunBy (grammarOf ws)
+RunOf ws = RunBy (grammar_of ws)
 
 -- The counts that the parser returns: moves, edit records and rule numbers listed.
-abbrev pub countsOf : List Move → Counts
-countsOf ms = record { moves = length ms; records = length (edits ms); listed = length (ruleNumbers ms) }
+abbrev pub counts_of : List Move → Counts
+counts_of ms = record { moves = length ms; records = length (edits ms); listed = length (rule_numbers ms) }
 
 unfoldable pub answered : Outcome (List Move) → Outcome Counts
-answered (given ms) = given (countsOf ms)
+answered (given ms) = given (counts_of ms)
 answered (refused r) = refused r
 
 -- What a lent buffer then holds, of which the moves have these words.
@@ -211,26 +211,26 @@ left words_of room (refused r) = cleared room
 
 -- What a log comes to and leaves in the edit buffer (es) and the rule buffer (rs), for every list of words, every log and all lengths
 -- of the buffers.
-pub record ParsesBy (Asked : Asks) (M : Meaning) (log : List ℕ) (editRoom ruleRoom : ℕ) (outcome : Outcome (List Move)) (es rs : List ℕ)
+pub record ParsesBy (Asked : Asks) (M : Meaning) (log : List ℕ) (edit_room rule_room : ℕ) (outcome : Outcome (List Move)) (es rs : List ℕ)
     : Type 0 where
-  pub settled : Settled (conditionsBefore M log Asked) (RunBy M.grammar log editRoom ruleRoom) outcome
-  pub leaves-edits : es ≡ left (λ ms. editWords (edits ms)) editRoom outcome
-  pub leaves-rules : rs ≡ left ruleNumbers ruleRoom outcome
+  pub settled : Settled (conditions_before M log Asked) (RunBy M.grammar log edit_room rule_room) outcome
+  pub leaves_edits : es ≡ left (λ ms. edit_words (edits ms)) edit_room outcome
+  pub leaves_rules : rs ≡ left rule_numbers rule_room outcome
 
 -- What it comes to by the words.
 abbrev pub Parses : Asks → List ℕ → List ℕ → ℕ → ℕ → Outcome (List Move) → List ℕ → List ℕ → Type 0
-Parses Asked ws = ParsesBy Asked (meaningOf ws)
+Parses Asked ws = ParsesBy Asked (meaning_of ws)
 
 -- The answer and the two buffers of a parse that asks besides for `Asked`.
-pub record ParsedBy (Asked : Asks) (M : Meaning) (log : List ℕ) (editRoom ruleRoom : ℕ) (answer : Outcome Counts) (es rs : List ℕ)
+pub record ParsedBy (Asked : Asks) (M : Meaning) (log : List ℕ) (edit_room rule_room : ℕ) (answer : Outcome Counts) (es rs : List ℕ)
     : Type 0 where
   pub outcome : Outcome (List Move)
-  pub parses : ParsesBy Asked M log editRoom ruleRoom outcome es rs
+  pub parses : ParsesBy Asked M log edit_room rule_room outcome es rs
   pub answers : answer ≡ answered outcome
 
 -- Those of the words.
 abbrev pub ParsedAsking : Asks → List ℕ → List ℕ → ℕ → ℕ → Outcome Counts → List ℕ → List ℕ → Type 0
-ParsedAsking Asked ws = ParsedBy Asked (meaningOf ws)
+ParsedAsking Asked ws = ParsedBy Asked (meaning_of ws)
 
 -- The parser's answer and its two buffers: it asks no more.
 abbrev pub Parsed : List ℕ → List ℕ → ℕ → ℕ → Outcome Counts → List ℕ → List ℕ → Type 0

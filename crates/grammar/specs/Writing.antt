@@ -13,29 +13,29 @@ bytes_of [] = []
 bytes_of (n ∷ ns) = n % 256 ∷ n / 256 ∷ bytes_of ns
 
 -- The words that block k holds: words 253k to 253k + 252, in the last block as many of them as there are.
-abbrev pub heldBy : List ℕ → ℕ → List ℕ
-heldBy ws k = take 253 (drop (253 * k) ws)
+abbrev pub held_by : List ℕ → ℕ → List ℕ
+held_by ws k = take 253 (drop (253 * k) ws)
 
 -- The numbers of block k in front of its check: "block number", "words used", "253 words, unused ones zero".
 unfoldable pub fields_of : List ℕ → ℕ → List ℕ
-fields_of ws k = k ∷ length (heldBy ws k) ∷ filled 253 (heldBy ws k)
+fields_of ws k = k ∷ length (held_by ws k) ∷ filled 253 (held_by ws k)
 
 -- Block k: those numbers, and "bytes 510-511", the check of the bytes that they are.
 unfoldable pub block_of : List ℕ → ℕ → List ℕ
 block_of ws k = bytes_of (fields_of ws k ++ (block_check (bytes_of (fields_of ws k)) 0 ∷ []))
 
 -- The first k blocks, in order.
-unfoldable pub firstBlocks : List ℕ → ℕ → List ℕ
-firstBlocks ws zero = []
-firstBlocks ws (suc k) = firstBlocks ws k ++ block_of ws k
+unfoldable pub first_blocks : List ℕ → ℕ → List ℕ
+first_blocks ws zero = []
+first_blocks ws (suc k) = first_blocks ws k ++ block_of ws k
 
 -- How many blocks n words take, each of them but the last full: n / 253, rounded up.
-abbrev pub blocksFor : ℕ → ℕ
-blocksFor n = (n + 252) / 253
+abbrev pub blocks_for : ℕ → ℕ
+blocks_for n = (n + 252) / 253
 
 -- The file of the words.
-unfoldable pub blocksOf : List ℕ → List ℕ
-blocksOf ws = firstBlocks ws (blocksFor (length ws))
+unfoldable pub blocks_of : List ℕ → List ℕ
+blocks_of ws = first_blocks ws (blocks_for (length ws))
 
 -- There are words, and not "more than 2,783".
 pub record WordCount (n : ℕ) : Type 0 where
@@ -44,13 +44,13 @@ pub record WordCount (n : ℕ) : Type 0 where
 
 -- The writer's conditions. By request (viii) "the writer refuses unit 1", and 16 stands "after 13 and before 14". `room` is the byte
 -- buffer's length.
-abbrev pub writeConditions : List ℕ → ℕ → List Condition
-writeConditions ws room =
+abbrev pub write_conditions : List ℕ → ℕ → List Condition
+write_conditions ws room =
     (BadCount unless WordCount (length ws))
     ∷ (Hundredths unless (UnitOne ws → ⊥))
-    ∷ (ShortBytes unless (512 * blocksFor (length ws) ≤ room))
+    ∷ (ShortBytes unless (512 * blocks_for (length ws) ≤ room))
     ∷ []
 
 -- "Bytes behind the last block become zero." The writer's answer, a number of bytes or a refusal, and the buffer afterwards.
 pub record FileWritten (ws : List ℕ) (room : ℕ) (answer : Outcome ℕ) (buffer : List ℕ) : Type 0 where
-  pub write : Fills (writeConditions ws room) room (blocksOf ws) answer buffer
+  pub write : Fills (write_conditions ws room) room (blocks_of ws) answer buffer

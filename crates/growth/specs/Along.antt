@@ -1,14 +1,14 @@
 -- The numbers that 0 comes to, step by step. A number that is reached and not done yet is on the list.
---     along-begins, along-goes, along-ends   the list: what is done has been stepped on from
---     spent-begins, spent-goes, spent_ends   and is emptied
---     along-less                             it ends: more is done
---     along_one, spent-one                   the answer is one
+--     along_begins, along_goes, along_ends   the list: what is done has been stepped on from
+--     spent_begins, spent_goes, spent_ends   and is emptied
+--     along_less                             it ends: more is done
+--     along_one, spent_one                   the answer is one
 use Rattle.std.specs.Prelude.{ℕ, ◌-◌, ◌^◌, ◌≤◌, ◌<◌, ◌≡◌, refl, Bool, true, false, List, ◌↔◌, length, get_or, set}
 use Rattle.std.proofs.Common.{sym, ◌∙◌, subst, true≢false, ⊎_elim, arith, length-set, ext_get_or, get_or-set_same, get_or-set_other}
 use Rattle.base.specs.Choices.{same_or}
 use Rattle.sets.specs.Bits.{member}
 use Rattle.sets.specs.Operations.{with, union, Beyond, Least}
-use Rattle.sets.specs.Laws.{empty-none, with-same, with-keeps, with_cases, with-grows, with-unchanged, union_left, union_right, union-cases, same-members}
+use Rattle.sets.specs.Laws.{empty_none, with_same, with_keeps, with_cases, with_grows, with_unchanged, union_left, union_right, union_cases, same_members}
 
 -- 0 comes to k: it is k, or it comes to one from which there is a step to k.
 pub data Along (feeds : List ℕ) : ℕ → Type 0 where
@@ -32,23 +32,23 @@ pub record Reaching (feeds : List ℕ) (reached done : ℕ) : Type 0 where
   pub within : (k : ℕ) → member done k ≡ true → member reached k ≡ true
   pub passed : (k : ℕ) → member done k ≡ true → (j : ℕ) → member (get_or feeds k 0) j ≡ true → member reached j ≡ true
 
-pub along-begins : (feeds : List ℕ) → Reaching feeds (with 0 0) 0
-along-begins feeds =
+pub along_begins : (feeds : List ℕ) → Reaching feeds (with 0 0) 0
+along_begins feeds =
     record {
-      sound = λ k m. ⊎_elim (λ e. subst (Along feeds) e Along.start) (λ none. absurd (empty-none k none)) (with_cases 0 0 k m);
-      start = with-same 0 0;
-      within = λ k m. absurd (empty-none k m);
-      passed = λ k m. absurd (empty-none k m);
+      sound = λ k m. ⊎_elim (λ e. subst (Along feeds) e Along.start) (λ none. absurd (empty_none k none)) (with_cases 0 0 k m);
+      start = with_same 0 0;
+      within = λ k m. absurd (empty_none k m);
+      passed = λ k m. absurd (empty_none k m);
     }
 
-pub along-goes : {feeds : List ℕ} {reached done rest k more : ℕ} → Reaching feeds reached done → Beyond reached done rest → Least rest k
+pub along_goes : {feeds : List ℕ} {reached done rest k more : ℕ} → Reaching feeds reached done → Beyond reached done rest → Least rest k
     → more ≡ get_or feeds k 0 → Reaching feeds (union reached more) (with done k)
-along-goes {feeds} {reached} {done} {rest} {k} {more} f b at is =
+along_goes {feeds} {reached} {done} {rest} {k} {more} f b at is =
     record {
       sound = λ j m.
           ⊎_elim (f.sound j)
           (λ h. Along.step (f.sound k ((b.exact k).0 at.held).0) (subst (λ s. member s j ≡ true) is h))
-          (union-cases reached more j m);
+          (union_cases reached more j m);
       start = union_left reached more 0 f.start;
       within = λ j m.
           union_left reached more j
@@ -71,11 +71,11 @@ module _ {reached done rest : ℕ} (b : Beyond reached done rest) (e : rest ≡ 
       at true q = q
       at false q =
           absurd
-          (empty-none k
+          (empty_none k
           (subst (λ s. member s k ≡ true) e ((b.exact k).1 (m, λ h. true≢false (sym h ∙ q)))))
 
-  pub along-ends : {feeds : List ℕ} → Reaching feeds reached done → Reached feeds reached
-  along-ends {feeds} f = record { exact = λ k. (f.sound k, all) }
+  pub along_ends : {feeds : List ℕ} → Reaching feeds reached done → Reached feeds reached
+  along_ends {feeds} f = record { exact = λ k. (f.sound k, all) }
     where
       all : {k : ℕ} → Along feeds k → member reached k ≡ true
       all Along.start = f.start
@@ -85,11 +85,11 @@ module _ {reached done rest : ℕ} (b : Beyond reached done rest) (e : rest ≡ 
   spent_ends f s =
       record { same = s.same; gone = λ k m. s.gone k (all_done k m); kept = λ k n. s.kept k (λ h. n (f.within k h)) }
 
-pub spent-begins : (old : List ℕ) → Spent old 0 old
-spent-begins old = record { same = refl; gone = λ k m. absurd (empty-none k m); kept = λ k n. refl }
+pub spent_begins : (old : List ℕ) → Spent old 0 old
+spent_begins old = record { same = refl; gone = λ k m. absurd (empty_none k m); kept = λ k n. refl }
 
-pub spent-goes : {old mid : List ℕ} {done k : ℕ} → Spent old done mid → k < length mid → Spent old (with done k) (set mid k 0)
-spent-goes {old} {mid} {done} {k} s inside =
+pub spent_goes : {old mid : List ℕ} {done k : ℕ} → Spent old done mid → k < length mid → Spent old (with done k) (set mid k 0)
+spent_goes {old} {mid} {done} {k} s inside =
     record {
       same = length-set mid k 0 ∙ s.same;
       gone = λ j m.
@@ -99,28 +99,28 @@ spent-goes {old} {mid} {done} {k} s inside =
           (λ n. get_or-set_other mid k j 0 0 (λ q. n (sym q)) ∙ s.gone j was) (same_or k j))
           (with_cases done k j m);
       kept = λ j n.
-          get_or-set_other mid k j 0 0 (λ q. n (subst (λ i. member (with done k) i ≡ true) (sym q) (with-same done k)))
-          ∙ s.kept j (λ was. n (with-keeps done k j was));
+          get_or-set_other mid k j 0 0 (λ q. n (subst (λ i. member (with done k) i ≡ true) (sym q) (with_same done k)))
+          ∙ s.kept j (λ was. n (with_keeps done k j was));
     }
 
 -- A set that has not been stepped on from is as it was.
-pub spent-unstepped : {old mid : List ℕ} {reached done rest k : ℕ} → Spent old done mid → Beyond reached done rest → Least rest k
+pub spent_unstepped : {old mid : List ℕ} {reached done rest k : ℕ} → Spent old done mid → Beyond reached done rest → Least rest k
     → get_or mid k 0 ≡ get_or old k 0
-spent-unstepped {k = k} s b at = s.kept k ((b.exact k).0 at.held).1
+spent_unstepped {k = k} s b at = s.kept k ((b.exact k).0 at.held).1
 
-pub along-less : {reached done rest k : ℕ} → Beyond reached done rest → Least rest k → with done k ≤ 2 ^ 64
+pub along_less : {reached done rest k : ℕ} → Beyond reached done rest → Least rest k → with done k ≤ 2 ^ 64
     → 2 ^ 64 - with done k < 2 ^ 64 - done
-along-less {reached} {done} {rest} {k} b at small =
-    let more = with-grows done k in
-    let other : with done k ≡ done → ⊥ = λ e. ((b.exact k).0 at.held).1 (with-unchanged done k e) in
+along_less {reached} {done} {rest} {k} b at small =
+    let more = with_grows done k in
+    let other : with done k ≡ done → ⊥ = λ e. ((b.exact k).0 at.held).1 (with_unchanged done k e) in
     omega (arith, other)
 
 pub along_one : {feeds : List ℕ} {a b : ℕ} → Reached feeds a → Reached feeds b → a < 2 ^ 64 → b < 2 ^ 64 → a ≡ b
 along_one {a = a} {b} p q l m =
-    same-members 64 a b l m (λ k h. (q.exact k).1 ((p.exact k).0 h)) (λ k h. (p.exact k).1 ((q.exact k).0 h))
+    same_members 64 a b l m (λ k h. (q.exact k).1 ((p.exact k).0 h)) (λ k h. (p.exact k).1 ((q.exact k).0 h))
 
-pub spent-one : {old a b : List ℕ} {done : ℕ} → Spent old done a → Spent old done b → a ≡ b
-spent-one {old} {a} {b} {done} p q = ext_get_or 0 a b (p.same ∙ sym q.same) (λ k h. at k (member done k) refl)
+pub spent_one : {old a b : List ℕ} {done : ℕ} → Spent old done a → Spent old done b → a ≡ b
+spent_one {old} {a} {b} {done} p q = ext_get_or 0 a b (p.same ∙ sym q.same) (λ k h. at k (member done k) refl)
   where
     at : (k : ℕ) (t : Bool) → member done k ≡ t → get_or a k 0 ≡ get_or b k 0
     at k true e = p.gone k e ∙ sym (q.gone k e)

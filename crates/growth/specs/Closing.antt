@@ -1,19 +1,19 @@
 -- Sets that are passed on along a list until nothing changes. `feeds` has for each set the numbers of the sets that are to hold it too;
 -- the list has the numbers of the sets that may have to be passed on, as the bits of a word: each stands there at most once.
---     end-high, end_low, end_below, end-held         which one is taken off the list
---     feed-none, feed-begins, feed-goes, feed-ends   one set is passed on to those that it feeds
---     close-begins, close-goes, close-ends           the list: what is not on it is passed on already
---     close-less                                     it ends: a set that goes on it has grown
---     closing-has                                    what is so of all that is there at first and is passed on is so of all that comes
---     closing-one, noted_one                         the answer is one
+--     end_high, end_low, end_below, end_held         which one is taken off the list
+--     feed_none, feed_begins, feed_goes, feed_ends   one set is passed on to those that it feeds
+--     close_begins, close_goes, close_ends           the list: what is not on it is passed on already
+--     close_less                                     it ends: a set that goes on it has grown
+--     closing_has                                    what is so of all that is there at first and is passed on is so of all that comes
+--     closing_one, noted_one                         the answer is one
 use Rattle.std.specs.Prelude.{ℕ, ◌+◌, ◌-◌, ◌*◌, ◌^◌, ◌≤◌, ◌<◌, ◌≡◌, refl, Bool, true, false, List, ◌⊎◌, ◌↔◌, length, get_or}
 use Rattle.std.proofs.Common.{sym, ap, ◌∙◌, subst, true≢false, inl, inr, ⊎_elim, arith, ext_get_or}
 use Rattle.base.specs.Choices.{same_or, below_or}
 use Rattle.sets.specs.Bits.{member}
 use Rattle.sets.specs.Operations.{with, union, without, Greatest, Least}
-use Rattle.sets.specs.Laws.{empty-none, with-same, with-keeps, union_left, union_right, union-none, same-members}
-use Rattle.sets.specs.Taking.{without-keeps, without_was, without-less}
-use Rattle.growth.specs.Sums.{sum, first-less, second-less}
+use Rattle.sets.specs.Laws.{empty_none, with_same, with_keeps, union_left, union_right, union_none, same_members}
+use Rattle.sets.specs.Taking.{without_keeps, without_was, without_less}
+use Rattle.growth.specs.Sums.{sum, first_less, second_less}
 use Rattle.growth.specs.Added.{Added}
 
 -- Token t comes to set k: it is there at first, or it comes to a set that feeds k.
@@ -27,11 +27,11 @@ pub record Closing (feeds begun sets : List ℕ) : Type 0 where
   pub exact : (k t : ℕ) → (member (get_or sets k 0) t ≡ true) ↔ Comes feeds begun t k
 
 -- What is so of all that is there at first and is passed on is so of all that comes.
-pub closing-has : {feeds begun sets : List ℕ} (P : ℕ → ℕ → Type 0) → Closing feeds begun sets
+pub closing_has : {feeds begun sets : List ℕ} (P : ℕ → ℕ → Type 0) → Closing feeds begun sets
     → ((k t : ℕ) → member (get_or begun k 0) t ≡ true → P k t)
     → ((j k t : ℕ) → member (get_or feeds j 0) k ≡ true → P j t → P k t)
     → (k t : ℕ) → member (get_or sets k 0) t ≡ true → P k t
-closing-has {feeds} {begun} P closing first next k t m = all k t ((closing.exact k t).0 m)
+closing_has {feeds} {begun} P closing first next k t m = all k t ((closing.exact k t).0 m)
   where
     all : (k t : ℕ) → Comes feeds begun t k → P k t
     all k t (Comes.here h) = first k t h
@@ -55,8 +55,8 @@ pub record EndOf (s : ℕ) (high : Bool) (i : ℕ) : Type 0 where
   pub greatest : high ≡ true → Greatest s i
   pub least : high ≡ false → Least s i
 
-pub end-high : {s i : ℕ} {high : Bool} → high ≡ true → Greatest s i → EndOf s high i
-end-high e g = record { greatest = λ _. g; least = λ f. absurd (true≢false (sym e ∙ f)) }
+pub end_high : {s i : ℕ} {high : Bool} → high ≡ true → Greatest s i → EndOf s high i
+end_high e g = record { greatest = λ _. g; least = λ f. absurd (true≢false (sym e ∙ f)) }
 
 pub end_low : {s i : ℕ} {high : Bool} → high ≡ false → Least s i → EndOf s high i
 end_low e l = record { greatest = λ f. absurd (true≢false (sym f ∙ e)); least = λ _. l }
@@ -66,9 +66,9 @@ pub end_below : {s i : ℕ} (high : Bool) → EndOf s high i → i < 64
 end_below true e = (e.greatest refl).below
 end_below false e = (e.least refl).below
 
-pub end-held : {s i : ℕ} (high : Bool) → EndOf s high i → member s i ≡ true
-end-held true e = (e.greatest refl).held
-end-held false e = (e.least refl).held
+pub end_held : {s i : ℕ} (high : Bool) → EndOf s high i → member s i ≡ true
+end_held true e = (e.greatest refl).held
+end_held false e = (e.least refl).held
 
 -- ---- One set is passed on
 
@@ -92,8 +92,8 @@ pub record Feeding (fed mask rest : ℕ) (old new : List ℕ) (grown : ℕ) : Ty
 abbrev pub Fed : ℕ → ℕ → List ℕ → List ℕ → ℕ → Type 0
 Fed fed mask old new grown = Feeding fed mask 0 old new grown
 
-pub feed-begins : (fed mask : ℕ) (old : List ℕ) → Feeding fed mask fed old old 0
-feed-begins fed mask old =
+pub feed_begins : (fed mask : ℕ) (old : List ℕ) → Feeding fed mask fed old old 0
+feed_begins fed mask old =
     record {
       same = refl;
       within = λ j m. m;
@@ -104,26 +104,26 @@ feed-begins fed mask old =
     }
 
 -- A set without members adds nothing.
-pub feed-none : (fed : ℕ) {mask : ℕ} (old : List ℕ) → mask ≡ 0 → Fed fed mask old old 0
-feed-none fed {mask} old e =
+pub feed_none : (fed : ℕ) {mask : ℕ} (old : List ℕ) → mask ≡ 0 → Fed fed mask old old 0
+feed_none fed {mask} old e =
     record {
       same = refl;
-      within = λ j m. absurd (empty-none j m);
+      within = λ j m. absurd (empty_none j m);
       keeps = λ j t m. m;
-      holds = λ j m n t k. absurd (empty-none t (subst (λ s. member s t ≡ true) e k));
+      holds = λ j m n t k. absurd (empty_none t (subst (λ s. member s t ≡ true) e k));
       source = λ j t m. inl m;
       grew = record { noted = λ j n t m. m; level = λ e. refl; raised = λ l. absurd (omega arith) };
     }
 
 -- A set with a member is not 0.
-with-some : (s i : ℕ) → 0 < with s i
-with-some s i =
-    ⊎_elim (λ none. absurd (empty-none i (subst (λ n. member n i ≡ true) (omega arith) (with-same s i)))) (λ some. some)
+with_some : (s i : ℕ) → 0 < with s i
+with_some s i =
+    ⊎_elim (λ none. absurd (empty_none i (subst (λ n. member n i ≡ true) (omega arith) (with_same s i)))) (λ some. some)
     (below_or (with s i) 1)
 
-pub feed-goes : {fed mask rest j grown more : ℕ} {old mid new : List ℕ} {b : Bool} → Feeding fed mask rest old mid grown → Least rest j
+pub feed_goes : {fed mask rest j grown more : ℕ} {old mid new : List ℕ} {b : Bool} → Feeding fed mask rest old mid grown → Least rest j
     → Added mid j mask new b → Noted grown j b more → Feeding fed mask (without rest j) old new more
-feed-goes {fed} {mask} {rest} {j} {grown} {more} {old} {mid} {new} {b} f at add note =
+feed_goes {fed} {mask} {rest} {j} {grown} {more} {old} {mid} {new} {b} f at add note =
     record {
       same = add.same ∙ f.same;
       within = λ i m. f.within i (⊎_elim (λ e. subst (λ n. member rest n ≡ true) e at.held) (λ n. without_was rest j i at.held n m)
@@ -131,7 +131,7 @@ feed-goes {fed} {mask} {rest} {j} {grown} {more} {old} {mid} {new} {b} f at add 
       keeps = λ i t m. add.keeps i t (f.keeps i t m);
       holds = λ i m n t k.
           ⊎_elim (λ e. subst (λ a. member (get_or new a 0) t ≡ true) e (add.holds t k))
-          (λ other. add.keeps i t (f.holds i m (λ r. n (without-keeps rest j i at.held other r)) t k))
+          (λ other. add.keeps i t (f.holds i m (λ r. n (without_keeps rest j i at.held other r)) t k))
           (same_or j i);
       source = λ i t m.
           ⊎_elim (f.source i t)
@@ -156,13 +156,13 @@ feed-goes {fed} {mask} {rest} {j} {grown} {more} {old} {mid} {new} {b} f at add 
     some e =
         let is = note.noted e in
         let up = add.raised e in
-        let here = subst (λ s. member s j ≡ true) (sym is) (with-same grown j) in
+        let here = subst (λ s. member s j ≡ true) (sym is) (with_same grown j) in
         record {
           noted = λ i n t m.
-              ⊎_elim (f.grew.noted i (λ h. n (subst (λ s. member s i ≡ true) (sym is) (with-keeps grown j i h))) t)
+              ⊎_elim (f.grew.noted i (λ h. n (subst (λ s. member s i ≡ true) (sym is) (with_keeps grown j i h))) t)
               (λ h. absurd (n (subst (λ a. member more a ≡ true) (sym h.0) here)))
               (add.source i t m);
-          level = λ z. absurd (omega (arith, with-some grown j));
+          level = λ z. absurd (omega (arith, with_some grown j));
           raised = λ l.
               ⊎_elim (λ none. let z : grown ≡ 0 = omega arith in omega (arith, ap sum (f.grew.level z)))
               (λ some. omega (arith, f.grew.raised some)) (below_or grown 1);
@@ -172,8 +172,8 @@ feed-goes {fed} {mask} {rest} {j} {grown} {more} {old} {mid} {new} {b} f at add 
     step false e = none e
     step true e = some e
 
-pub feed-ends : {fed mask rest grown : ℕ} {old new : List ℕ} → Feeding fed mask rest old new grown → rest ≡ 0 → Fed fed mask old new grown
-feed-ends {fed} {mask} {grown = grown} {old = old} {new = new} f e = subst (λ r. Feeding fed mask r old new grown) e f
+pub feed_ends : {fed mask rest grown : ℕ} {old new : List ℕ} → Feeding fed mask rest old new grown → rest ≡ 0 → Fed fed mask old new grown
+feed_ends {fed} {mask} {grown = grown} {old = old} {new = new} f e = subst (λ r. Feeding fed mask r old new grown) e f
 
 -- ---- The list
 
@@ -185,8 +185,8 @@ pub record Opened (feeds begun sets : List ℕ) (list : ℕ) : Type 0 where
   pub passed : (k : ℕ) → (member list k ≡ true → ⊥) → (j : ℕ) → member (get_or feeds k 0) j ≡ true
       → (t : ℕ) → member (get_or sets k 0) t ≡ true → member (get_or sets j 0) t ≡ true
 
-pub close-begins : (feeds begun : List ℕ) (list : ℕ) → length begun ≡ 64 → Listed feeds list → Opened feeds begun begun list
-close-begins feeds begun list size listed =
+pub close_begins : (feeds begun : List ℕ) (list : ℕ) → length begun ≡ 64 → Listed feeds list → Opened feeds begun begun list
+close_begins feeds begun list size listed =
     record {
       size = size;
       sound = λ k t m. Comes.here m;
@@ -194,35 +194,35 @@ close-begins feeds begun list size listed =
       passed = λ k n j m. absurd (n (listed k j m));
     }
 
-pub close-goes : {feeds begun old new : List ℕ} {list k fed mask grown : ℕ} (high : Bool) → Opened feeds begun old list
+pub close_goes : {feeds begun old new : List ℕ} {list k fed mask grown : ℕ} (high : Bool) → Opened feeds begun old list
     → EndOf list high k → fed ≡ get_or feeds k 0 → mask ≡ get_or old k 0 → Fed fed mask old new grown → Opened feeds begun new (union (without list k) grown)
-close-goes {feeds} {begun} {old} {new} {list} {k} {fed} {mask} {grown} high o at isFed isMask f =
+close_goes {feeds} {begun} {old} {new} {list} {k} {fed} {mask} {grown} high o at is_fed is_mask f =
     record {
       size = f.same ∙ o.size;
       sound = λ i t m.
           ⊎_elim (o.sound i t)
           (λ h.
-          Comes.onward {j = k} (o.sound k t (subst (λ s. member s t ≡ true) isMask h.1)) (subst (λ s. member s i ≡ true) isFed h.0))
+          Comes.onward {j = k} (o.sound k t (subst (λ s. member s t ≡ true) is_mask h.1)) (subst (λ s. member s i ≡ true) is_fed h.0))
           (f.source i t m);
       keeps = λ i t m. f.keeps i t (o.keeps i t m);
       passed = λ i n j m t h.
           let was = f.grew.noted i (λ g. n (union_right (without list k) grown i g)) t h in
           ⊎_elim
           (λ e.
-          f.holds j (subst (λ s. member s j ≡ true) (sym isFed) (subst (λ a. member (get_or feeds a 0) j ≡ true) (sym e) m)) (empty-none j) t
-          (subst (λ s. member s t ≡ true) (sym isMask) (subst (λ a. member (get_or old a 0) t ≡ true) (sym e) was)))
+          f.holds j (subst (λ s. member s j ≡ true) (sym is_fed) (subst (λ a. member (get_or feeds a 0) j ≡ true) (sym e) m)) (empty_none j) t
+          (subst (λ s. member s t ≡ true) (sym is_mask) (subst (λ a. member (get_or old a 0) t ≡ true) (sym e) was)))
           (λ other.
-          f.keeps j t (o.passed i (λ g. n (union_left (without list k) grown i (without-keeps list k i (end-held high at) other g))) j m t was))
+          f.keeps j t (o.passed i (λ g. n (union_left (without list k) grown i (without_keeps list k i (end_held high at) other g))) j m t was))
           (same_or k i);
     }
 
 -- Behind the list there is nothing to pass on, so that a set holds what comes to it.
-pub close-ends : {feeds begun sets : List ℕ} {list : ℕ} → Opened feeds begun sets list → list ≡ 0 → Closing feeds begun sets
-close-ends {feeds} {begun} {sets} {list} o e =
+pub close_ends : {feeds begun sets : List ℕ} {list : ℕ} → Opened feeds begun sets list → list ≡ 0 → Closing feeds begun sets
+close_ends {feeds} {begun} {sets} {list} o e =
     record { size = o.size; exact = λ k t. (o.sound k t, all k t) }
   where
     nothing : (k : ℕ) → member list k ≡ true → ⊥
-    nothing k m = empty-none k (subst (λ s. member s k ≡ true) e m)
+    nothing k m = empty_none k (subst (λ s. member s k ≡ true) e m)
 
     all : (k t : ℕ) → Comes feeds begun t k → member (get_or sets k 0) t ≡ true
     all k t (Comes.here m) = o.keeps k t m
@@ -232,27 +232,27 @@ close-ends {feeds} {begun} {sets} {list} o e =
 abbrev pub left : List ℕ → ℕ → ℕ
 left sets list = (64 * 2 ^ 64 - sum sets) * 2 ^ 64 + list
 
-pub close-less : {list k fed mask grown : ℕ} {old new : List ℕ} (high : Bool) → EndOf list high k → Fed fed mask old new grown → sum new ≤ 64 * 2 ^ 64
+pub close_less : {list k fed mask grown : ℕ} {old new : List ℕ} (high : Bool) → EndOf list high k → Fed fed mask old new grown → sum new ≤ 64 * 2 ^ 64
     → union (without list k) grown < 2 ^ 64 → left new (union (without list k) grown) < left old list
-close-less {list} {k} {grown = grown} {old} {new} high at f limit small =
+close_less {list} {k} {grown = grown} {old} {new} high at f limit small =
     ⊎_elim
     (λ none.
     let z : grown ≡ 0 = omega arith in
-    let rest = ap (λ g. union (without list k) g) z ∙ union-none (without list k) in
-    let less = without-less list k (end-held high at) in
-    second-less (2 ^ 64) (64 * 2 ^ 64 - sum old) (64 * 2 ^ 64 - sum new) list (union (without list k) grown)
+    let rest = ap (λ g. union (without list k) g) z ∙ union_none (without list k) in
+    let less = without_less list k (end_held high at) in
+    second_less (2 ^ 64) (64 * 2 ^ 64 - sum old) (64 * 2 ^ 64 - sum new) list (union (without list k) grown)
     (ap (λ l. 64 * 2 ^ 64 - sum l) (f.grew.level z)) (subst (λ n. n < list) (sym rest) less))
     (λ some.
     let up = f.grew.raised some in
-    first-less (2 ^ 64) (64 * 2 ^ 64 - sum old) (64 * 2 ^ 64 - sum new) list (union (without list k) grown) (omega arith) small)
+    first_less (2 ^ 64) (64 * 2 ^ 64 - sum old) (64 * 2 ^ 64 - sum new) list (union (without list k) grown) (omega arith) small)
     (below_or grown 1)
 
 -- ---- Only one answer
 
-pub closing-one : {feeds begun one two : List ℕ} → Closing feeds begun one → Closing feeds begun two
+pub closing_one : {feeds begun one two : List ℕ} → Closing feeds begun one → Closing feeds begun two
     → ((j : ℕ) → get_or one j 0 < 2 ^ 64) → ((j : ℕ) → get_or two j 0 < 2 ^ 64) → one ≡ two
-closing-one {one = one} {two = two} p q l m =
+closing_one {one = one} {two = two} p q l m =
     ext_get_or 0 one two (p.size ∙ sym q.size)
     (λ k h.
-    same-members 64 (get_or one k 0) (get_or two k 0) (l k) (m k)
+    same_members 64 (get_or one k 0) (get_or two k 0) (l k) (m k)
     (λ t i. (q.exact k t).1 ((p.exact k t).0 i)) (λ t i. (p.exact k t).1 ((q.exact k t).0 i)))

@@ -9,11 +9,11 @@ sum [] = 0
 sum (x ∷ l) = x + sum l
 
 -- One element set.
-pub sum-set : (l : List ℕ) (i v : ℕ) → i < length l → sum (set l i v) + get_or l i 0 ≡ sum l + v
+pub sum_set : (l : List ℕ) (i v : ℕ) → i < length l → sum (set l i v) + get_or l i 0 ≡ sum l + v
 unfolding sum
-sum-set [] i v h = absurd (omega arith)
-sum-set (x ∷ l) zero v h = omega arith
-sum-set (x ∷ l) (suc i) v h = omega (arith, sum-set l i v (omega arith))
+sum_set [] i v h = absurd (omega arith)
+sum_set (x ∷ l) zero v h = omega arith
+sum_set (x ∷ l) (suc i) v h = omega (arith, sum_set l i v (omega arith))
 
 -- Where no element is above b, the sum is at most b for each.
 pub sum_bound : (l : List ℕ) (b : ℕ) → ((i : ℕ) → get_or l i 0 ≤ b) → sum l ≤ length l * b
@@ -37,9 +37,9 @@ pub sum_below : (l : List ℕ) → length l ≡ 64 → ((i : ℕ) → Fits w64 (
 sum_below l e f = subst (λ n. sum l ≤ n * 2 ^ 64) e (sum_bound l (2 ^ 64) (λ i. let g = (f i).fits in omega arith))
 
 -- Of two numbers the first decides, the second where the first is the same.
-pub first-less : (limit a b x y : ℕ) → b < a → y < limit → b * limit + y < a * limit + x
-first-less limit a b x y less small =
+pub first_less : (limit a b x y : ℕ) → b < a → y < limit → b * limit + y < a * limit + x
+first_less limit a b x y less small =
     let more : suc b * limit ≤ a * limit = mul-le-mul_right limit less in omega (arith, suc-mul b limit)
 
-pub second-less : (limit a b x y : ℕ) → b ≡ a → y < x → b * limit + y < a * limit + x
-second-less limit a b x y same less = omega (arith, ap (λ n. n * limit) same)
+pub second_less : (limit a b x y : ℕ) → b ≡ a → y < x → b * limit + y < a * limit + x
+second_less limit a b x y same less = omega (arith, ap (λ n. n * limit) same)

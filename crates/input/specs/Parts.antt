@@ -21,17 +21,17 @@ PartFits space Failed = Unit {0}
 
 -- ---- What the tests of an answer tell: the machine reads z back from its bits, as y
 
-pub part-failed : (y z : ℤ) (room : ℕ) → y ≡ z → lt_z y (pos 0) ≡ true → Failed ≡ part_of z room
+pub part_failed : (y z : ℤ) (room : ℕ) → y ≡ z → lt_z y (pos 0) ≡ true → Failed ≡ part_of z room
 unfolding part_of
-part-failed y (negsuc n) room e l = refl
-part-failed y (pos n) room e l = absurd (not-below n (sym (ap (λ (x : ℤ). lt_z x (pos 0)) e) ∙ l))
+part_failed y (negsuc n) room e l = refl
+part_failed y (pos n) room e l = absurd (not_below n (sym (ap (λ (x : ℤ). lt_z x (pos 0)) e) ∙ l))
   where
-    not-below : (n : ℕ) → lt_z (pos n) (pos 0) ≡ true → ⊥
-    not-below n h = true≢false (sym h ∙ le-ltb n 0 (omega arith))
+    not_below : (n : ℕ) → lt_z (pos n) (pos 0) ≡ true → ⊥
+    not_below n h = true≢false (sym h ∙ le-ltb n 0 (omega arith))
 
-pub part-ended : (y z : ℤ) (room : ℕ) → y ≡ z → y ≡ pos 0 → End ≡ part_of z room
+pub part_ended : (y z : ℤ) (room : ℕ) → y ≡ z → y ≡ pos 0 → End ≡ part_of z room
 unfolding part_of
-part-ended y z room e f = ap (λ (x : ℤ). part_of x room) (sym f ∙ e)
+part_ended y z room e f = ap (λ (x : ℤ). part_of x room) (sym f ∙ e)
 
 pub part_bytes : (y z : ℤ) (room n : ℕ) → y ≡ z → lt_z y (pos 0) ≡ false → (z ≡ pos 0 → ⊥) → n ≡ clamp_len y room
     → Bytes n ≡ part_of z room
@@ -40,9 +40,9 @@ part_bytes y (pos zero) room n e l m f = absurd (m refl)
 part_bytes y (pos (suc k)) room n e l m f = ap Bytes (f ∙ ap (λ (x : ℤ). clamp_len x room) e)
 part_bytes y (negsuc k) room n e l m f = absurd (true≢false (ap (λ (x : ℤ). lt_z x (pos 0)) (sym e) ∙ l))
 
-pub part-fits : (z : ℤ) (space : List ℕ) (part : Part) → part ≡ part_of z (length space) → PartFits space part
+pub part_fits : (z : ℤ) (space : List ℕ) (part : Part) → part ≡ part_of z (length space) → PartFits space part
 unfolding part_of
-part-fits z space part e = subst (λ (p : Part). PartFits space p) (sym e) (fits z)
+part_fits z space part e = subst (λ (p : Part). PartFits space p) (sym e) (fits z)
   where
     fits : (z : ℤ) → PartFits space (part_of z (length space))
     fits (negsuc n) = tt

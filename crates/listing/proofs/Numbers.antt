@@ -9,10 +9,10 @@ use borrow.Author.Tests.{lt-ltb, le-ltb}
 use Rattle.grammar.specs.Listing.{digit, digits, decimal}
 
 -- One digit.
-pub decimal-one : (n : ℕ) → n < 10 → decimal n ≡ digit n
+pub decimal_one : (n : ℕ) → n < 10 → decimal n ≡ digit n
 unfolding decimal digits
-decimal-one zero l = refl
-decimal-one (suc n) l = simp (lt-ltb (suc n) 10 l)
+decimal_one zero l = refl
+decimal_one (suc n) l = simp (lt-ltb (suc n) 10 l)
 
 -- More bounds than the number of digits give the same.
 digits_same : (j k n : ℕ) → n ≤ j → n ≤ k → digits j n ≡ digits k n
@@ -34,9 +34,9 @@ digits_same (suc j) (suc k) n l m =
     (ap (λ (l : List ℕ). l ++ digit (n % 10)) (digits_same j k (n / 10) (omega arith) (omega arith))))
 
 -- The last digit behind those of the tenth.
-pub decimal-more : (n : ℕ) → 10 ≤ n → decimal n ≡ decimal (n / 10) ++ digit (n % 10)
+pub decimal_more : (n : ℕ) → 10 ≤ n → decimal n ≡ decimal (n / 10) ++ digit (n % 10)
 unfolding decimal digits
-decimal-more zero l = absurd (omega arith)
-decimal-more (suc n) l =
+decimal_more zero l = absurd (omega arith)
+decimal_more (suc n) l =
     simp (le-ltb (suc n) 10 l)
     (ap (λ (l : List ℕ). l ++ digit (suc n % 10)) (digits_same n (suc n / 10) (suc n / 10) (omega arith) (omega arith)))

@@ -3,7 +3,7 @@ use Rattle.std.specs.Prelude.{ℕ, ◌≤◌, ◌≡◌, List, [], ◌∷◌, �
 use Rattle.grammar.specs.Moves.{Edit}
 use Rattle.grammar.specs.Refusals.{Outcome, given, refused}
 use Rattle.grammar.specs.File.{FileRead}
-use Rattle.grammar.specs.Listing.{Counted, blocksEnd, fileOf, tokensOf, ticksOf}
+use Rattle.grammar.specs.Listing.{Counted, blocks_end, file_of, tokens_of, ticks_of}
 use Rattle.grammar.specs.declared.Refusal.{Refusal}
 use Rattle.grammar.specs.declared.Refusal.TheVariants.{BadSize}
 use Rattle.listing.specs.declared.input.Blocks.{Blocks}
@@ -18,7 +18,7 @@ end_of (Refused r) = refused r
 
 -- Where an input's blocks end, or refusal 1.
 pub data InputCounted (input : List ℕ) : Outcome ℕ → Type 0 where
-  counted : Counted input → InputCounted input (given (blocksEnd input))
+  counted : Counted input → InputCounted input (given (blocks_end input))
   uncounted : (Counted input → ⊥) → InputCounted input (refused BadSize)
 
 -- The list `new` was written into the buffer `old`, as much of it as fits, and `count` is how much that is; what the buffer
@@ -29,13 +29,13 @@ pub record Wrote (old new buffer : List ℕ) (count : ℕ) : Type 0 where
 
 -- An input taken apart: how many words, tokens and ticks it has as far as the lent buffers hold them, and these in front of the buffers;
 -- or the refusal of its count or its file.
-pub data TakenApart (input oldWords oldTokens oldTicks : List ℕ) : Taken → List ℕ → List ℕ → List ℕ → Type 0 where
-  uncounted : (Counted input → ⊥) → TakenApart input oldWords oldTokens oldTicks (NotTaken BadSize) oldWords oldTokens oldTicks
-  unread : {r : Refusal} {words : List ℕ} → Counted input → FileRead (fileOf input) (length oldWords) (refused r) words
-      → TakenApart input oldWords oldTokens oldTicks (NotTaken r) words oldTokens oldTicks
-  apart : {n k t : ℕ} {words tokens ticks : List ℕ} → Counted input → FileRead (fileOf input) (length oldWords) (given n) words
-      → Wrote oldTokens (tokensOf input) tokens k → Wrote oldTicks (ticksOf input) ticks t
-      → TakenApart input oldWords oldTokens oldTicks (Apart n k t) words tokens ticks
+pub data TakenApart (input old_words old_tokens old_ticks : List ℕ) : Taken → List ℕ → List ℕ → List ℕ → Type 0 where
+  uncounted : (Counted input → ⊥) → TakenApart input old_words old_tokens old_ticks (NotTaken BadSize) old_words old_tokens old_ticks
+  unread : {r : Refusal} {words : List ℕ} → Counted input → FileRead (file_of input) (length old_words) (refused r) words
+      → TakenApart input old_words old_tokens old_ticks (NotTaken r) words old_tokens old_ticks
+  apart : {n k t : ℕ} {words tokens ticks : List ℕ} → Counted input → FileRead (file_of input) (length old_words) (given n) words
+      → Wrote old_tokens (tokens_of input) tokens k → Wrote old_ticks (ticks_of input) ticks t
+      → TakenApart input old_words old_tokens old_ticks (Apart n k t) words tokens ticks
 
 -- The bytes `new` are written behind those that end at `at`: whatever stands there by then, they go on with it.
 pub record Appends (before : List ℕ) (at : ℕ) (new after : List ℕ) (next : ℕ) : Type 0 where
@@ -43,8 +43,8 @@ pub record Appends (before : List ℕ) (at : ℕ) (new after : List ℕ) (next :
   pub goes : (old front : List ℕ) → Wrote old front before at → Wrote old (front ++ new) after next
 
 -- The edit records that words hold: three words each.
-unfoldable pub recordsOf : List ℕ → List Edit
-recordsOf [] = []
-recordsOf (k ∷ []) = []
-recordsOf (k ∷ p ∷ []) = []
-recordsOf (k ∷ p ∷ x ∷ ws) = record { kind = k; place = p; symbol = x } ∷ recordsOf ws
+unfoldable pub records_of : List ℕ → List Edit
+records_of [] = []
+records_of (k ∷ []) = []
+records_of (k ∷ p ∷ []) = []
+records_of (k ∷ p ∷ x ∷ ws) = record { kind = k; place = p; symbol = x } ∷ records_of ws

@@ -6,15 +6,15 @@ use Rattle.std.proofs.Common.{arith, sym, ap, subst, ◌∙◌, append-nil, leng
 use Rattle.std.proofs.Math.Logic.{dite}
 use Rattle.grammar.specs.File.{FileRead}
 use Rattle.grammar.specs.Refusals.{given, refused, number_of}
-use Rattle.grammar.specs.Listing.{Printed, fileOf, refusedLine, tokensOf, ticksOf}
+use Rattle.grammar.specs.Listing.{Printed, file_of, refused_line, tokens_of, ticks_of}
 use Rattle.grammar.specs.declared.Refusal.{Refusal}
 use Rattle.listing.specs.declared.input.Taken.{Taken}
 use Rattle.listing.specs.declared.input.Taken.TheVariants.{Apart, Refused}
 use Rattle.listing.specs.Answer.{Wrote, TakenApart}
-use Rattle.listing.specs.Sizes.{refused-length, wrote-front, wrote-part}
-use Rattle.listing.specs.Enough.{printed-front}
-use Rattle.listing.specs.Unique.{printed-unique, wrote-unique}
-use Rattle.listing.specs.Leads.{Kept, read-part}
+use Rattle.listing.specs.Sizes.{refused_length, wrote_front, wrote_part}
+use Rattle.listing.specs.Enough.{printed_front}
+use Rattle.listing.specs.Unique.{printed_unique, wrote_unique}
+use Rattle.listing.specs.Leads.{Kept, read_part}
 
 -- The lines of the input, which `Lines` gives, were written into the buffer `old`, whole, and `count` is their length; what the buffer
 -- held behind them stays.
@@ -30,10 +30,10 @@ pub shown : {Lines : List ℕ → List ℕ → Type 0} {input old text out : Lis
 shown {text = text} p w fits = record { text = text; printed = p; fits = fits; wrote = w }
 
 -- So is the line of a refusal.
-pub shown-refused : (r : Refusal) {Lines : List ℕ → List ℕ → Type 0} {input old out : List ℕ} {count : ℕ}
-    → Lines input (refusedLine (number_of r)) → Wrote old (refusedLine (number_of r)) out count → 11 ≤ length old
+pub shown_refused : (r : Refusal) {Lines : List ℕ → List ℕ → Type 0} {input old out : List ℕ} {count : ℕ}
+    → Lines input (refused_line (number_of r)) → Wrote old (refused_line (number_of r)) out count → 11 ≤ length old
     → ShownBy Lines input old out count
-shown-refused r p w room = shown p w (omega (arith, refused-length r))
+shown_refused r p w room = shown p w (omega (arith, refused_length r))
 
 -- ---- What was read of an input: its first `size` bytes, in a room of 30,216 bytes or more
 
@@ -49,7 +49,7 @@ module _ (Lines : List ℕ → List ℕ → Type 0) where
       → ((input output : List ℕ) (kept : ℕ) → 30216 ≤ kept → Lines (take kept input) output → Lines input output)
       → 30216 ≤ length room → size ≤ length room → ShownBy Lines (take size room) old out count → WholeBy Lines room size old out count
   whole_by {room} {old} {out} {size} {count} front enough within s =
-      let part = wrote-part s.wrote in
+      let part = wrote_part s.wrote in
       record {
         within = part.0;
         counts = part.1;
@@ -74,45 +74,45 @@ module _ (Lines : List ℕ → List ℕ → Type 0) where
   whole_unique {old = old} {x = x} {n = n} unique p q =
       let one = p.whole [] (λ l. refl) in
       let two = q.whole [] (λ l. refl) in
-      wrote-unique (subst (λ (t : List ℕ). Wrote old t x n) (unique _ _ _ one.printed two.printed) one.wrote) two.wrote
+      wrote_unique (subst (λ (t : List ℕ). Wrote old t x n) (unique _ _ _ one.printed two.printed) one.wrote) two.wrote
 
 -- ---- What an input that was taken apart leads to
 
-module _ {input oldWords oldTokens oldTicks words tokens ticks : List ℕ} where
+module _ {input old_words old_tokens old_ticks words tokens ticks : List ℕ} where
   -- The answer is the one told.
-  pub apart-told : {a b : Taken} → TakenApart input oldWords oldTokens oldTicks a words tokens ticks → a ≡ b
-      → TakenApart input oldWords oldTokens oldTicks b words tokens ticks
-  apart-told p e = subst (λ (a : Taken). TakenApart input oldWords oldTokens oldTicks a words tokens ticks) e p
+  pub apart_told : {a b : Taken} → TakenApart input old_words old_tokens old_ticks a words tokens ticks → a ≡ b
+      → TakenApart input old_words old_tokens old_ticks b words tokens ticks
+  apart_told p e = subst (λ (a : Taken). TakenApart input old_words old_tokens old_ticks a words tokens ticks) e p
 
   -- What was written stands in the buffers.
-  pub apart_parts : {n k t : ℕ} → TakenApart input oldWords oldTokens oldTicks (Apart n k t) words tokens ticks
+  pub apart_parts : {n k t : ℕ} → TakenApart input old_words old_tokens old_ticks (Apart n k t) words tokens ticks
       → (n ≤ length words) × ((k ≤ length tokens) × (t ≤ length ticks))
-  apart_parts (TakenApart.apart c f p q) = (read-part f refl, ((wrote-part p).0, (wrote-part q).0))
+  apart_parts (TakenApart.apart c f p q) = (read_part f refl, ((wrote_part p).0, (wrote_part q).0))
 
   -- No more tokens than the buffer has room for.
-  pub apart-short : {n k t : ℕ} → TakenApart input oldWords oldTokens oldTicks (Apart n k t) words tokens ticks
-      → length (take k tokens) ≤ length oldTokens
-  apart-short (TakenApart.apart c f p q) =
-      let most = min-le_left (length oldTokens) (length (tokensOf input)) in
-      omega (arith, ap length (wrote-front p), length-take (length oldTokens) (tokensOf input))
+  pub apart_short : {n k t : ℕ} → TakenApart input old_words old_tokens old_ticks (Apart n k t) words tokens ticks
+      → length (take k tokens) ≤ length old_tokens
+  apart_short (TakenApart.apart c f p q) =
+      let most = min-le_left (length old_tokens) (length (tokens_of input)) in
+      omega (arith, ap length (wrote_front p), length-take (length old_tokens) (tokens_of input))
 
   -- In buffers of 2,783 words and 4,097 tokens and ticks it decides.
-  pub apart-kept : {n k t : ℕ} → TakenApart input oldWords oldTokens oldTicks (Apart n k t) words tokens ticks → length oldWords ≡ 2783
-      → length oldTokens ≡ 4097 → length oldTicks ≡ 4097 → Kept input (take n words) (take k tokens) (take t ticks)
-  apart-kept {n} (TakenApart.apart c f p q) a b d =
+  pub apart_kept : {n k t : ℕ} → TakenApart input old_words old_tokens old_ticks (Apart n k t) words tokens ticks → length old_words ≡ 2783
+      → length old_tokens ≡ 4097 → length old_ticks ≡ 4097 → Kept input (take n words) (take k tokens) (take t ticks)
+  apart_kept {n} (TakenApart.apart c f p q) a b d =
       record {
         counted = c;
         file =
             record {
               buffer = words;
               count = n;
-              read = subst (λ (room : ℕ). FileRead (fileOf input) room (given n) words) a f;
+              read = subst (λ (room : ℕ). FileRead (file_of input) room (given n) words) a f;
               front = refl;
             };
         room = 4097;
         enough = omega arith;
-        tokens = wrote-front p ∙ ap (λ (m : ℕ). take m (tokensOf input)) b;
-        times = wrote-front q ∙ ap (λ (m : ℕ). take m (ticksOf input)) d;
+        tokens = wrote_front p ∙ ap (λ (m : ℕ). take m (tokens_of input)) b;
+        times = wrote_front q ∙ ap (λ (m : ℕ). take m (ticks_of input)) d;
       }
 
 -- ---- The listing
@@ -123,22 +123,22 @@ Shown = ShownBy Printed
 abbrev pub ShownWhole : List ℕ → ℕ → List ℕ → List ℕ → ℕ → Type 0
 ShownWhole = WholeBy Printed
 
-pub shown-whole : {room old out : List ℕ} {size count : ℕ} → 30216 ≤ length room → size ≤ length room
+pub shown_whole : {room old out : List ℕ} {size count : ℕ} → 30216 ≤ length room → size ≤ length room
     → Shown (take size room) old out count → ShownWhole room size old out count
-shown-whole enough within s = whole_by Printed (λ input output kept most p. printed-front kept most p) enough within s
+shown_whole enough within s = whole_by Printed (λ input output kept most p. printed_front kept most p) enough within s
 
 -- The listing is one, and so is every byte of the buffer.
-pub shown-unique : {room old x y : List ℕ} {size n m : ℕ} → ShownWhole room size old x n → ShownWhole room size old y m → (n ≡ m) × (x ≡ y)
-shown-unique p q = whole_unique Printed (λ input a b x y. printed-unique x y) p q
+pub shown_unique : {room old x y : List ℕ} {size n m : ℕ} → ShownWhole room size old x n → ShownWhole room size old y m → (n ≡ m) × (x ≡ y)
+shown_unique p q = whole_unique Printed (λ input a b x y. printed_unique x y) p q
 
 -- The refusal of an input's count or file is printed.
-pub taken_refused : {input oldWords oldTokens oldTicks words tokens ticks : List ℕ} {r : Refusal}
-    → TakenApart input oldWords oldTokens oldTicks (Refused r) words tokens ticks → length oldWords ≡ 2783
-    → Printed input (refusedLine (number_of r))
+pub taken_refused : {input old_words old_tokens old_ticks words tokens ticks : List ℕ} {r : Refusal}
+    → TakenApart input old_words old_tokens old_ticks (Refused r) words tokens ticks → length old_words ≡ 2783
+    → Printed input (refused_line (number_of r))
 taken_refused (TakenApart.uncounted n) e = Printed.uncounted n
 taken_refused {input} {words = words} {r = r} (TakenApart.unread c f) e =
-    Printed.unread c (subst (λ (room : ℕ). FileRead (fileOf input) room (refused r) words) e f)
+    Printed.unread c (subst (λ (room : ℕ). FileRead (file_of input) room (refused r) words) e f)
 
 -- The listing of records in the front of 24,576 words fits.
-pub fits-front : {k n m part size : ℕ} → size ≤ 19 * (part / 3) + 169 → part ≡ k → k ≤ n → n ≡ 24576 → 155817 ≤ m → size ≤ m
-fits-front s a b c d = omega arith
+pub fits_front : {k n m part size : ℕ} → size ≤ 19 * (part / 3) + 169 → part ≡ k → k ≤ n → n ≡ 24576 → 155817 ≤ m → size ≤ m
+fits_front s a b c d = omega arith

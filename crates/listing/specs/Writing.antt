@@ -1,8 +1,8 @@
 -- Bytes written one behind the other, as far as they fit.
---     wrote-length, wrote-fits    the buffer keeps its length; what ends before the buffer's end is written whole
---     put-none, put_one, put-past nothing is written; one byte that fits; one that does not
+--     wrote_length, wrote_fits    the buffer keeps its length; what ends before the buffer's end is written whole
+--     put_none, put_one, put_past nothing is written; one byte that fits; one that does not
 --     put_then                    two lists, one behind the other
---     put-more, put-text          a text, byte by byte
+--     put_more, put_text          a text, byte by byte
 --     put_all                     what is written from the front on
 use Rattle.std.specs.Prelude.{ℕ, suc, ◌+◌, ◌≤◌, ◌<◌, ◌≡◌, refl, List, [], ◌∷◌, ◌++◌, length, take, drop, set, get_or}
 use Rattle.std.proofs.Math.Decide.{dec_lt}
@@ -14,22 +14,22 @@ use Rattle.std.proofs.Math.Seq.{take-nil}
 use Rattle.listing.specs.Answer.{Wrote, Appends}
 
 module _ {old front buffer : List ℕ} {at : ℕ} (w : Wrote old front buffer at) where
-  pub wrote-length : length buffer ≡ length old
-  wrote-length =
+  pub wrote_length : length buffer ≡ length old
+  wrote_length =
       let most = min-le_left (length old) (length front) in
       let shown : length (take (length old) front) ≤ length old = simp length-take most in
       ap length w.holds ∙ simp (length-append, length-drop) (omega (arith, w.number))
 
   -- What ends before the buffer's end is the whole of it.
-  pub wrote-fits : at < length old → take (length old) front ≡ front
-  wrote-fits l =
+  pub wrote_fits : at < length old → take (length old) front ≡ front
+  wrote_fits l =
       take_all (length old) front
       (dite (dec_lt (length old) (length front))
       (λ more. absurd (omega (arith, w.number, length-take-le (length old) front (omega arith))))
       (λ less. omega arith))
 
-pub put-none : (buffer : List ℕ) (at : ℕ) → at ≤ length buffer → Appends buffer at [] buffer at
-put-none buffer at l =
+pub put_none : (buffer : List ℕ) (at : ℕ) → at ≤ length buffer → Appends buffer at [] buffer at
+put_none buffer at l =
     record { within = l; goes = λ old front w. subst (λ (t : List ℕ). Wrote old t buffer at) (sym (append-nil front)) w }
 
 -- A byte behind a text that fits.
@@ -44,8 +44,8 @@ one_more old front b l =
 wrote_one : {old front buffer : List ℕ} {at : ℕ} (b : ℕ) → Wrote old front buffer at → at < length buffer
     → Wrote old (front ++ (b ∷ [])) (set buffer at b) (at + 1)
 wrote_one {old} {front} {buffer} {at} b w l =
-    let below : at < length old = omega (arith, wrote-length w) in
-    let whole : take (length old) front ≡ front = wrote-fits w below in
+    let below : at < length old = omega (arith, wrote_length w) in
+    let whole : take (length old) front ≡ front = wrote_fits w below in
     let size : at ≡ length front = w.number ∙ ap length whole in
     let more : length (front ++ (b ∷ [])) ≡ at + 1 = simp length-append (omega arith) in
     let next : take (length old) (front ++ (b ∷ [])) ≡ front ++ (b ∷ []) = take_all (length old) _ (omega arith) in
@@ -65,12 +65,12 @@ pub put_one : (buffer : List ℕ) (at b : ℕ) → at < length buffer → at + 1
     → Appends buffer at (b ∷ []) (set buffer at b) (at + 1)
 put_one buffer at b l m = record { within = m; goes = λ old front w. wrote_one b w l }
 
-wrote-past : {old front buffer : List ℕ} {at : ℕ} (new : List ℕ) → Wrote old front buffer at → length buffer ≤ at
+wrote_past : {old front buffer : List ℕ} {at : ℕ} (new : List ℕ) → Wrote old front buffer at → length buffer ≤ at
     → Wrote old (front ++ new) buffer at
-wrote-past {old} {front} {buffer} {at} new w l =
+wrote_past {old} {front} {buffer} {at} new w l =
     let full : length old ≤ length front =
     dite (dec_lt (length front) (length old))
-    (λ less. absurd (omega (arith, w.number, wrote-length w, ap length (take_all (length old) front (omega arith)))))
+    (λ less. absurd (omega (arith, w.number, wrote_length w, ap length (take_all (length old) front (omega arith)))))
     (λ more. omega arith) in
     let same : take (length old) (front ++ new) ≡ take (length old) front = take-append-le (length old) front new full in
     record {
@@ -78,8 +78,8 @@ wrote-past {old} {front} {buffer} {at} new w l =
       holds = w.holds ∙ ap (λ (t : List ℕ). t ++ drop at old) (sym same);
     }
 
-pub put-past : (buffer : List ℕ) (at b : ℕ) → length buffer ≤ at → at ≤ length buffer → Appends buffer at (b ∷ []) buffer at
-put-past buffer at b l m = record { within = m; goes = λ old front w. wrote-past (b ∷ []) w l }
+pub put_past : (buffer : List ℕ) (at b : ℕ) → length buffer ≤ at → at ≤ length buffer → Appends buffer at (b ∷ []) buffer at
+put_past buffer at b l m = record { within = m; goes = λ old front w. wrote_past (b ∷ []) w l }
 
 pub put_then : {a b c x y : List ℕ} {i j k : ℕ} → Appends a i x b j → Appends b j y c k → Appends a i (x ++ y) c k
 put_then {c = c} {x = x} {y = y} {k = k} p q =
@@ -90,13 +90,13 @@ put_then {c = c} {x = x} {y = y} {k = k} p q =
     }
 
 -- One byte more of a text.
-pub put-more : {a b c : List ℕ} {at i j k : ℕ} (text : List ℕ) → Appends a at (take i text) b j → i < length text
+pub put_more : {a b c : List ℕ} {at i j k : ℕ} (text : List ℕ) → Appends a at (take i text) b j → i < length text
     → Appends b j (get_or text i 0 ∷ []) c k → Appends a at (take (i + 1) text) c k
-put-more {a} {c = c} {at = at} {i = i} {k = k} text p l q =
+put_more {a} {c = c} {at = at} {i = i} {k = k} text p l q =
     subst (λ (t : List ℕ). Appends a at t c k) (sym (ap (λ (n : ℕ). take n text) (add-one i) ∙ take-suc text i 0 l)) (put_then p q)
 
-pub put-text : {a b text : List ℕ} {at i j : ℕ} → Appends a at (take i text) b j → length text ≤ i → Appends a at text b j
-put-text {a} {b} {text} {at} {i} {j} p l = subst (λ (t : List ℕ). Appends a at t b j) (take_all i text l) p
+pub put_text : {a b text : List ℕ} {at i j : ℕ} → Appends a at (take i text) b j → length text ≤ i → Appends a at text b j
+put_text {a} {b} {text} {at} {i} {j} p l = subst (λ (t : List ℕ). Appends a at t b j) (take_all i text l) p
 
 pub put_as : {a b x y : List ℕ} {at next : ℕ} → Appends a at x b next → x ≡ y → Appends a at y b next
 put_as {a} {b} {at = at} {next = next} p e = subst (λ (t : List ℕ). Appends a at t b next) e p

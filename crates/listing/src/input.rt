@@ -1,7 +1,7 @@
 // What standard input holds: document 01, "The printed listing", first half.
 ghost use Rattle.std.specs.Prelude.{◌≡◌, ◌+◌, ◌-◌, ◌*◌, ◌/◌, ◌^◌, ◌≤◌, ◌<◌, min, get_or};
 ghost use Rattle.grammar.specs.File.{pair_at};
-ghost use Rattle.grammar.specs.Listing.{fileOf, quadAt, ticksFrom, tokensFrom};
+ghost use Rattle.grammar.specs.Listing.{file_of, quad_at, ticks_from, tokens_from};
 ghost use Rattle.listing.specs.Answer.{InputCounted, TakenApart, Wrote, end_of};
 
 use file::Reading;
@@ -78,7 +78,7 @@ fn blocks_of(input: &[u8]) -> Blocks
 
 // The grammar file: the blocks, as far as the input has them.
 fn file_of(input: &[u8]) -> &[u8]
-    ensures { result.now ≡ fileOf input.now }
+    ensures { result.now ≡ file_of input.now }
 {
     if input.len() < COUNT_BYTES {
         return &input[0..0];
@@ -93,7 +93,7 @@ fn file_of(input: &[u8]) -> &[u8]
 // Writes the tokens from a byte to the input's end into the buffer, as many as fit, and gives their number. An entry that is
 // cut short has a token.
 fn tokens_from(input: &[u8], from: usize, tokens: &mut [u16]) -> usize
-    ensures { Wrote tokens.old (tokensFrom input.now from) tokens.new result }
+    ensures { Wrote tokens.old (tokens_from input.now from) tokens.new result }
 {
     let count = least(begun_entries(input.len(), from), tokens.len());
     let mut i = 0;
@@ -107,7 +107,7 @@ fn tokens_from(input: &[u8], from: usize, tokens: &mut [u16]) -> usize
 // Writes the ticks from a byte to the input's end into the buffer, as many as fit, and gives their number. An entry that is
 // cut short has no tick.
 fn ticks_from(input: &[u8], from: usize, ticks: &mut [u32]) -> usize
-    ensures { Wrote ticks.old (ticksFrom input.now from) ticks.new result }
+    ensures { Wrote ticks.old (ticks_from input.now from) ticks.new result }
 {
     let count = least(whole_entries(input.len(), from), ticks.len());
     let mut i = 0;
@@ -155,7 +155,7 @@ fn least(a: usize, b: usize) -> usize
 // The number of four bytes.
 fn quad(bytes: &[u8], at: usize) -> u32
     requires { at + 3 < 2 ^ 64 }
-    ensures { result ≡ quadAt bytes.now at }
+    ensures { result ≡ quad_at bytes.now at }
 {
     base::quad(pair(bytes, at), pair(bytes, at + 2))
 }

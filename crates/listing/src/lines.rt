@@ -3,22 +3,22 @@ ghost use Rattle.std.specs.Prelude.{[], ◌∷◌, ◌++◌, ◌+◌, ◌*◌, �
 ghost use Rattle.grammar.specs.Refusals.{number_of};
 ghost use Rattle.grammar.specs.Listing.{
   decimal,
-  editLine,
-  editLines,
+  edit_line,
+  edit_lines,
   field,
-  kindWord,
+  kind_word,
   listing,
-  okLine,
-  paceLine,
-  refusedLine,
+  ok_line,
+  pace_line,
+  refused_line,
 };
-ghost use Rattle.listing.specs.Answer.{Appends, Wrote, recordsOf};
+ghost use Rattle.listing.specs.Answer.{Appends, Wrote, records_of};
 
 use grammar::{Counts, Pace, Refusal, Report};
 
 // Writes the line of a refusal into the buffer, as much as fits, and gives how many bytes that are.
 pub fn refused(refusal: Refusal, out: &mut [u8]) -> usize
-    ensures { Wrote out.old (refusedLine (number_of refusal)) out.new result }
+    ensures { Wrote out.old (refused_line (number_of refusal)) out.new result }
 {
     let at = put_field(out, 0, b"refused ", grammar::number_of(refusal) as u64);
     put_byte(out, at, b'\n')
@@ -27,8 +27,8 @@ pub fn refused(refusal: Refusal, out: &mut [u8]) -> usize
 // Writes the listing of a run into the buffer, as much as fits, and gives how many bytes that are. `edits` are the words of
 // its edit records; of 24,576 words the listing has at most 155,817 bytes.
 pub fn listed(tokens: usize, counts: Counts, edits: &[u16], report: Report, out: &mut [u8]) -> usize
-    ensures wrote { Wrote out.old (listing tokens counts (recordsOf edits.now) report) out.new result }
-    ensures report_len_bound { length (listing tokens counts (recordsOf edits.now) report)
+    ensures wrote { Wrote out.old (listing tokens counts (records_of edits.now) report) out.new result }
+    ensures report_len_bound { length (listing tokens counts (records_of edits.now) report)
         ≤ 19 * (length edits.now / 3) + 169 }
 {
     let at = put_ok(out, tokens, counts);
@@ -38,7 +38,7 @@ pub fn listed(tokens: usize, counts: Counts, edits: &[u16], report: Report, out:
 
 // The first line.
 fn put_ok(out: &mut [u8], tokens: usize, counts: Counts) -> usize
-    ensures { Appends out.old 0 (okLine tokens counts) out.new result }
+    ensures { Appends out.old 0 (ok_line tokens counts) out.new result }
 {
     let first = put_field(out, 0, b"ok tokens ", tokens as u64);
     let second = put_field(out, first, b" moves ", counts.moves as u64);
@@ -50,7 +50,7 @@ fn put_ok(out: &mut [u8], tokens: usize, counts: Counts) -> usize
 // The edit lines, one for each three words.
 fn put_edits(out: &mut [u8], at: usize, edits: &[u16]) -> usize
     requires { at ≤ length out.old }
-    ensures { Appends out.old at (editLines (recordsOf edits.now)) out.new result }
+    ensures { Appends out.old at (edit_lines (records_of edits.now)) out.new result }
 {
     let mut next = at;
     let mut i = 0;
@@ -64,7 +64,7 @@ fn put_edits(out: &mut [u8], at: usize, edits: &[u16]) -> usize
 // The line of one edit record.
 fn put_edit(out: &mut [u8], at: usize, kind: u16, place: u16, symbol: u16) -> usize
     requires { at ≤ length out.old }
-    ensures { Appends out.old at (editLine (record { kind = kind; place = place; symbol = symbol }))
+    ensures { Appends out.old at (edit_line (record { kind = kind; place = place; symbol = symbol }))
         out.new result }
 {
     let first = put_kind(out, at, kind, place);
@@ -75,8 +75,8 @@ fn put_edit(out: &mut [u8], at: usize, kind: u16, place: u16, symbol: u16) -> us
 // The last line.
 fn put_pace(out: &mut [u8], at: usize, report: Report) -> usize
     requires { at ≤ length out.old }
-    ensures appends { Appends out.old at (paceLine report.count report.sum report.pace) out.new result }
-    ensures pace_len_bound { length (paceLine report.count report.sum report.pace) ≤ 57 }
+    ensures appends { Appends out.old at (pace_line report.count report.sum report.pace) out.new result }
+    ensures pace_len_bound { length (pace_line report.count report.sum report.pace) ≤ 57 }
 {
     let pace = report.pace;
     match pace {
@@ -95,7 +95,7 @@ fn put_pace(out: &mut [u8], at: usize, report: Report) -> usize
 // A record's kind and place.
 fn put_kind(out: &mut [u8], at: usize, kind: u16, place: u16) -> usize
     requires { at ≤ length out.old }
-    ensures { Appends out.old at (field (kindWord kind) place) out.new result }
+    ensures { Appends out.old at (field (kind_word kind) place) out.new result }
 {
     if kind == 1 {
         return put_field(out, at, b"delete ", place as u64);

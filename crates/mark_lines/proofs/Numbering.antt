@@ -13,11 +13,11 @@ pub record Numbering (old places : List ℕ) (i : ℕ) : Type 0 where
   pub within : i ≤ length places
   pub numbers : (p : ℕ) → p < i → get_or places p 0 ≡ p
 
-pub numbering-begins : (old : List ℕ) → Numbering old old 0
-numbering-begins old = record { same = refl; within = omega arith; numbers = λ p l. absurd (omega arith) }
+pub numbering_begins : (old : List ℕ) → Numbering old old 0
+numbering_begins old = record { same = refl; within = omega arith; numbers = λ p l. absurd (omega arith) }
 
-pub numbering-goes : {old places : List ℕ} {i : ℕ} → Numbering old places i → i < length places → Numbering old (set places i i) (i + 1)
-numbering-goes {old} {places} {i} n l =
+pub numbering_goes : {old places : List ℕ} {i : ℕ} → Numbering old places i → i < length places → Numbering old (set places i i) (i + 1)
+numbering_goes {old} {places} {i} n l =
     let size = length-set places i i in
     record {
       same = size ∙ n.same;

@@ -8,58 +8,58 @@ use mathlib.Core.List.{List, [], ◌∷◌}
 use Rattle.std.proofs.Math.ListN.{length-append, length-map}
 use Rattle.grammar.specs.Marks.{Mark}
 use Rattle.grammar.specs.Listing.{ascii, decimal}
-use Rattle.grammar.specs.MarkLines.{addedCount, markLine, markLines, markListing, marksLine}
-use Rattle.listing.specs.Sizes.{decimal-long, decimal-word, digits-length, field-length}
-use Rattle.mark_lines.specs.Told.{mark-added, mark-kept, mark_of, marksIn}
+use Rattle.grammar.specs.MarkLines.{added_count, mark_line, mark_lines, mark_listing, marks_line}
+use Rattle.listing.specs.Sizes.{decimal_long, decimal_word, digits_length, field_length}
+use Rattle.mark_lines.specs.Told.{mark_added, mark_kept, mark_of, marks_in}
 
-decimal-tick : (n : ℕ) → n < 2 ^ 32 → length (decimal n) ≤ 10
+decimal_tick : (n : ℕ) → n < 2 ^ 32 → length (decimal n) ≤ 10
 unfolding decimal
-decimal-tick n l = digits-length 9 n n (omega arith)
+decimal_tick n l = digits_length 9 n n (omega arith)
 
-kept-length : (ticks : List ℕ) (p t : ℕ) → t < 65536 → get_or ticks p 0 < 2 ^ 32 → length (markLine ticks (Mark.kept p t)) ≤ 22
-unfolding markLine ascii
-kept-length ticks p t a b = simp (length-append, field-length) (omega (arith, decimal-word t a, decimal-tick (get_or ticks p 0) b))
+kept_length : (ticks : List ℕ) (p t : ℕ) → t < 65536 → get_or ticks p 0 < 2 ^ 32 → length (mark_line ticks (Mark.kept p t)) ≤ 22
+unfolding mark_line ascii
+kept_length ticks p t a b = simp (length-append, field_length) (omega (arith, decimal_word t a, decimal_tick (get_or ticks p 0) b))
 
-added-length : (ticks : List ℕ) (t : ℕ) → t < 65536 → length (markLine ticks (Mark.added t)) ≤ 22
-unfolding markLine ascii
-added-length ticks t a = simp (length-append, field-length) (omega (arith, decimal-word t a))
+added_length : (ticks : List ℕ) (t : ℕ) → t < 65536 → length (mark_line ticks (Mark.added t)) ≤ 22
+unfolding mark_line ascii
+added_length ticks t a = simp (length-append, field_length) (omega (arith, decimal_word t a))
 
-few-added : (xs : List Mark) → addedCount xs ≤ length xs
-unfolding addedCount
-few-added [] = omega arith
-few-added (Mark.kept p t ∷ xs) = omega (arith, few-added xs)
-few-added (Mark.added t ∷ xs) = omega (arith, few-added xs)
+few_added : (xs : List Mark) → added_count xs ≤ length xs
+unfolding added_count
+few_added [] = omega arith
+few_added (Mark.kept p t ∷ xs) = omega (arith, few_added xs)
+few_added (Mark.added t ∷ xs) = omega (arith, few_added xs)
 
-last-length : (n k : ℕ) → n < 2 ^ 64 → k < 2 ^ 64 → length (marksLine n k) ≤ 54
-unfolding marksLine ascii
-last-length n k a b = simp (length-append, field-length) (omega (arith, decimal-long n a, decimal-long k b))
+last_length : (n k : ℕ) → n < 2 ^ 64 → k < 2 ^ 64 → length (marks_line n k) ≤ 54
+unfolding marks_line ascii
+last_length n k a b = simp (length-append, field_length) (omega (arith, decimal_long n a, decimal_long k b))
 
 module _ (log ticks : List ℕ) (tokens : (i : ℕ) → get_or log i 0 < 65536) (times : (i : ℕ) → get_or ticks i 0 < 2 ^ 32) where
-  line-length : (v : ℕ) → v < 65536 → length (markLine ticks (mark_of log v)) ≤ 22
-  line-length v l =
+  line_length : (v : ℕ) → v < 65536 → length (mark_line ticks (mark_of log v)) ≤ 22
+  line_length v l =
       dite (dec_lt v 4096)
-      (λ less. rw (mark-kept log v less) (kept-length ticks v (get_or log v 0) (tokens v) (times v)))
+      (λ less. rw (mark_kept log v less) (kept_length ticks v (get_or log v 0) (tokens v) (times v)))
       (λ more.
       let enough : 4096 ≤ v = omega arith in
-      rw (mark-added log v enough) (added-length ticks (v - 4096) (omega arith)))
+      rw (mark_added log v enough) (added_length ticks (v - 4096) (omega arith)))
 
-  lines-length : (ws : List ℕ) → ((i : ℕ) → get_or ws i 0 < 65536) → length (markLines ticks (marksIn log ws)) ≤ 22 * length ws
-  unfolding markLines
-  lines-length [] small = omega arith
-  lines-length (v ∷ ws) small =
-      let line = line-length v (small 0) in
-      let rest = lines-length ws (λ i. small (suc i)) in
+  lines_length : (ws : List ℕ) → ((i : ℕ) → get_or ws i 0 < 65536) → length (mark_lines ticks (marks_in log ws)) ≤ 22 * length ws
+  unfolding mark_lines
+  lines_length [] small = omega arith
+  lines_length (v ∷ ws) small =
+      let line = line_length v (small 0) in
+      let rest = lines_length ws (λ i. small (suc i)) in
       simp length-append (omega arith)
 
   -- All of them.
-  pub listing-length : (ws : List ℕ) → ((i : ℕ) → get_or ws i 0 < 65536) → length ws < 2 ^ 64
-      → length (markListing ticks (marksIn log ws)) ≤ 22 * length ws + 54
-  unfolding markListing
-  listing-length ws small l =
+  pub listing_length : (ws : List ℕ) → ((i : ℕ) → get_or ws i 0 < 65536) → length ws < 2 ^ 64
+      → length (mark_listing ticks (marks_in log ws)) ≤ 22 * length ws + 54
+  unfolding mark_listing
+  listing_length ws small l =
       let count = length-map ws (mark_of log) in
-      let few = few-added (marksIn log ws) in
-      let last = last-length (length (marksIn log ws)) (addedCount (marksIn log ws)) (omega arith) (omega arith) in
-      simp length-append (omega (arith, lines-length ws small))
+      let few = few_added (marks_in log ws) in
+      let last = last_length (length (marks_in log ws)) (added_count (marks_in log ws)) (omega arith) (omega arith) in
+      simp length-append (omega (arith, lines_length ws small))
 
 -- Those of at most 65,536 words fit.
 pub lines_fit : {k m part size : ℕ} → size ≤ 22 * part + 54 → part ≡ k → k ≤ 65536 → 1441846 ≤ m → size ≤ m

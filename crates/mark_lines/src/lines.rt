@@ -1,8 +1,8 @@
 // The lines of print_marks: document 02, request (iv). Each function writes as much as fits.
 ghost use Rattle.std.specs.Prelude.{List, ◌≡◌, ℕ, ◌+◌, ◌*◌, ◌≤◌, ◌<◌, length};
-ghost use Rattle.grammar.specs.MarkLines.{addedCount, markLine, markLines, markListing, marksLine};
+ghost use Rattle.grammar.specs.MarkLines.{added_count, mark_line, mark_lines, mark_listing, marks_line};
 ghost use Rattle.listing.specs.Answer.{Appends, Wrote};
-ghost use Rattle.mark_lines.specs.Told.{Placed, mark_of, marksIn};
+ghost use Rattle.mark_lines.specs.Told.{Placed, mark_of, marks_in};
 
 // A word that is lower is the place of a kept mark; any other is an added token, raised by so much. `mark_of` of specs/Told.antt says so.
 pub const ADDED: u16 = 4096;
@@ -10,9 +10,9 @@ pub const ADDED: u16 = 4096;
 // Writes the lines of the marks that words tell into the buffer, as much as fits, and gives how many bytes that are.
 pub fn listed(words: &[u16], log: &[u16], ticks: &[u32], out: &mut [u8]) -> usize
     requires { Placed words.now log.now ticks.now }
-    ensures wrote { Wrote out.old (markListing ticks.now (marksIn log.now words.now))
+    ensures wrote { Wrote out.old (mark_listing ticks.now (marks_in log.now words.now))
         out.new result }
-    ensures words_len_bound { length (markListing ticks.now (marksIn log.now words.now))
+    ensures words_len_bound { length (mark_listing ticks.now (marks_in log.now words.now))
         ≤ 22 * length words.now + 54 }
 {
     let next = put_marks(out, words, log, ticks);
@@ -22,7 +22,7 @@ pub fn listed(words: &[u16], log: &[u16], ticks: &[u32], out: &mut [u8]) -> usiz
 // The last line.
 fn put_last(out: &mut [u8], at: usize, marks: usize, added: usize) -> usize
     requires { at ≤ length out.old }
-    ensures { Appends out.old at (marksLine marks added) out.new result }
+    ensures { Appends out.old at (marks_line marks added) out.new result }
 {
     let first = listing::lines::put_field(out, at, b"marks ", marks as u64);
     let second = listing::lines::put_field(out, first, b" added ", added as u64);
@@ -31,7 +31,7 @@ fn put_last(out: &mut [u8], at: usize, marks: usize, added: usize) -> usize
 
 // How many of the words are added tokens.
 fn added_in(words: &[u16]) -> usize
-    ensures { (log : List ℕ) → result ≡ addedCount (marksIn log words.now) }
+    ensures { (log : List ℕ) → result ≡ added_count (marks_in log words.now) }
 {
     let mut added = 0;
     let mut i = 0;
@@ -47,7 +47,7 @@ fn added_in(words: &[u16]) -> usize
 // The lines of the marks, from the buffer's front on.
 fn put_marks(out: &mut [u8], words: &[u16], log: &[u16], ticks: &[u32]) -> usize
     requires { Placed words.now log.now ticks.now }
-    ensures { Appends out.old 0 (markLines ticks.now (marksIn log.now words.now))
+    ensures { Appends out.old 0 (mark_lines ticks.now (marks_in log.now words.now))
         out.new result }
 {
     let mut next = 0;
@@ -64,7 +64,7 @@ fn put_mark(out: &mut [u8], at: usize, word: u16, log: &[u16], ticks: &[u32]) ->
     requires at_in_bounds { at ≤ length out.old }
     requires word_in_bounds { word < 4096 → word < length log.now }
     requires ticks_len { length ticks.now ≡ length log.now }
-    ensures { Appends out.old at (markLine ticks.now (mark_of log.now word)) out.new result }
+    ensures { Appends out.old at (mark_line ticks.now (mark_of log.now word)) out.new result }
 {
     if ADDED <= word {
         let token = listing::lines::put_field(out, at, b"add ", (word - ADDED) as u64);

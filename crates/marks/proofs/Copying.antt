@@ -5,7 +5,7 @@ use mathlib.Core.List.{List, [], ◌∷◌, ◌++◌}
 use native.Mathlib.Omega.{arith}
 use lib.ListN.{length, get_or, take, drop, set, length-drop, length-take}
 use lib.Seq.{take-suc, get_or-drop, take_all}
-use Rattle.base.specs.Written.{written, written_none, written-more, written-length}
+use Rattle.base.specs.Written.{written, written_none, written_more, written_length}
 use Rattle.marks.specs.Answer.{PutOf}
 use Rattle.marks.specs.declared.Put.TheVariants.{Whole, Short}
 use Rattle.marks.specs.Marking.{CanCopy, Copied}
@@ -20,8 +20,8 @@ pub record Copying (kept : List ℕ) (from to : ℕ) (old : List ℕ) (at i : �
   pub ended : end ≡ at + (i - from)
   pub within : i - from ≤ to - from
 
-pub copy-begins : {kept : List ℕ} {from to : ℕ} {old : List ℕ} {at : ℕ} → Copying kept from to old at from old at
-copy-begins {kept} {from} {to} {old} {at} =
+pub copy_begins : {kept : List ℕ} {from to : ℕ} {old : List ℕ} {at : ℕ} → Copying kept from to old at from old at
+copy_begins {kept} {from} {to} {old} {at} =
     let none : from - from ≡ 0 = omega arith in
     record {
       low = omega arith;
@@ -32,10 +32,10 @@ copy-begins {kept} {from} {to} {old} {at} =
 
 module _ {kept : List ℕ} {from to : ℕ} {old : List ℕ} {at i : ℕ} {tokens : List ℕ} {end : ℕ} (can : CanCopy kept from to old at)
     (s : Copying kept from to old at i tokens end) where
-  pub copy-length : length tokens ≡ length old
-  copy-length =
+  pub copy_length : length tokens ≡ length old
+  copy_length =
       ap length s.wrote
-      ∙ written-length old at (take (i - from) (drop from kept))
+      ∙ written_length old at (take (i - from) (drop from kept))
       (omega (arith, can.room, s.within, length-take (i - from) (drop from kept)))
 
   pub copy_goes : i < to → Copying kept from to old at (i + 1) (set tokens end (get_or kept i 0)) (end + 1)
@@ -50,7 +50,7 @@ module _ {kept : List ℕ} {from to : ℕ} {old : List ℕ} {at i : ℕ} {tokens
         low = omega arith;
         wrote =
             ap₂ (λ (t : List ℕ) (e : ℕ). set t e (get_or kept i 0)) s.wrote (s.ended ∙ ap (λ (m : ℕ). at + m) (sym size))
-            ∙ (written-more old at part (get_or kept i 0) (omega (arith, can.room, size))
+            ∙ (written_more old at part (get_or kept i 0) (omega (arith, can.room, size))
             ∙ ap (λ t. written old at t)
             (ap (λ x. part ++ (x ∷ [])) (sym (get_or-drop from kept n 0 ∙ ap (λ m. get_or kept m 0) here))
             ∙ (sym (take-suc (drop from kept) n 0 (omega (arith, length-drop from kept, can.within)))
@@ -59,8 +59,8 @@ module _ {kept : List ℕ} {from to : ℕ} {old : List ℕ} {at i : ℕ} {tokens
         within = omega arith;
       }
 
-  pub copy-ends : to ≤ i → Copied kept from to old at tokens end
-  copy-ends l =
+  pub copy_ends : to ≤ i → Copied kept from to old at tokens end
+  copy_ends l =
       let all : i - from ≡ to - from = omega (arith, s.within) in
       record {
         wrote = s.wrote ∙ ap (λ (n : ℕ). written old at (take n (drop from kept))) all;
@@ -69,13 +69,13 @@ module _ {kept : List ℕ} {from to : ℕ} {old : List ℕ} {at i : ℕ} {tokens
 
 -- ---- A log without edits
 
-pub log-short : (kept old tokens : List ℕ) → length old < length kept → PutOf kept old tokens Short
+pub log_short : (kept old tokens : List ℕ) → length old < length kept → PutOf kept old tokens Short
 unfolding PutOf
-log-short kept old tokens l = l
+log_short kept old tokens l = l
 
-pub log-whole : {kept old tokens : List ℕ} {size : ℕ} → length kept ≤ length old → Copied kept 0 (length kept) old 0 tokens size
+pub log_whole : {kept old tokens : List ℕ} {size : ℕ} → length kept ≤ length old → Copied kept 0 (length kept) old 0 tokens size
     → PutOf kept old tokens (Whole size)
 unfolding PutOf
-log-whole {kept} {old} l c =
+log_whole {kept} {old} l c =
     let all : take (length kept - 0) (drop 0 kept) ≡ kept = take_all (length kept - 0) kept (omega arith) in
     (c.ends ∙ omega arith, l, c.wrote ∙ ap (λ t. written old 0 t) all)

@@ -9,58 +9,58 @@ use native.Mathlib.Omega.{arith}
 use lib.ListN.{length, get_or, take, replicate}
 use Rattle.base.specs.Telling.{Tells}
 use Rattle.base.specs.Written.{written}
-use Rattle.grammar.specs.Words.{nonterminalCount}
-use Rattle.grammar.specs.Moves.{Move, editWords, edits as editsOf}
+use Rattle.grammar.specs.Words.{nonterminal_count}
+use Rattle.grammar.specs.Moves.{Move, edit_words, edits as edits_of}
 use Rattle.grammar.specs.Marks.{Mark, MarksOf}
-use Rattle.strings.specs.Gathering.{Gathered, gathered-rights}
+use Rattle.strings.specs.Gathering.{Gathered, gathered_rights}
 use Rattle.strings.specs.Lengths.{CanMeasure, Measured}
-use Rattle.strings.specs.Spelled.{Rights, Spells, spells-words}
-use Rattle.marks.specs.Answer.{PutOf, wordBy}
+use Rattle.strings.specs.Spelled.{Rights, Spells, spells_words}
+use Rattle.marks.specs.Answer.{PutOf, word_by}
 use Rattle.marks.specs.Marking.{CanPut, CanRestore, CanSize, PutAs, Ran, RestoredAs}
-use Rattle.marks.specs.Restored.{listed-walk, marks-restored, marks-unedited}
-use Rattle.marks.specs.Restoring.{Listed, needed, recordsFrom, records-all, restored, restored-length}
+use Rattle.marks.specs.Restored.{listed_walk, marks_restored, marks_unedited}
+use Rattle.marks.specs.Restoring.{Listed, needed, records_from, records_all, restored, restored_length}
 use Rattle.marks.specs.declared.Put.{Put}
 use Rattle.marks.specs.declared.Put.TheVariants.{Whole, Short}
 
 -- A table that is all zero.
-blank-at : (n k : ℕ) → ◌≡◌ {A = ℕ} (get_or (replicate n 0) k 0) 0
-blank-at zero k = refl
-blank-at (suc n) zero = refl
-blank-at (suc n) (suc k) = blank-at n k
+blank_at : (n k : ℕ) → ◌≡◌ {A = ℕ} (get_or (replicate n 0) k 0) 0
+blank_at zero k = refl
+blank_at (suc n) zero = refl
+blank_at (suc n) (suc k) = blank_at n k
 
 abbrev pub blank : List ℕ
 blank = replicate 64 0
 
 -- A log without edits is its own result.
-pub put-log : {ws edits : List ℕ} {records : ℕ} {kept : List ℕ} {raise : ℕ} {old tokens : List ℕ} {r : Put} → records ≡ 0
+pub put_log : {ws edits : List ℕ} {records : ℕ} {kept : List ℕ} {raise : ℕ} {old tokens : List ℕ} {r : Put} → records ≡ 0
     → PutOf kept old tokens r → PutAs ws edits records kept raise old tokens r
-put-log {ws} {edits} {records} {kept} {raise} {old} {tokens} {r} e p =
+put_log {ws} {edits} {records} {kept} {raise} {old} {tokens} {r} e p =
     record {
       puts = λ ms xs ran m.
-          let none : editWords (editsOf ms) ≡ [] = sym ran.front ∙ ap (λ n. take (3 * n) edits) e in
-          subst (λ l. PutOf l old tokens r) (sym (marks-unedited kept raise ran.walk ran.tokens none m)) p;
+          let none : edit_words (edits_of ms) ≡ [] = sym ran.front ∙ ap (λ n. take (3 * n) edits) e in
+          subst (λ l. PutOf l old tokens r) (sym (marks_unedited kept raise ran.walk ran.tokens none m)) p;
     }
 
 module _ {ws prices sides edits : List ℕ} {records : ℕ} {kept : List ℕ} {raise : ℕ} (can : CanPut ws prices sides edits records kept raise)
-    {table : List ℕ} (g : Gathered (nonterminalCount ws) prices sides blank table) {depth : ℕ} (deep : depth ≡ nonterminalCount ws) where
+    {table : List ℕ} (g : Gathered (nonterminal_count ws) prices sides blank table) {depth : ℕ} (deep : depth ≡ nonterminal_count ws) where
   rights : Rights ws table
-  rights = gathered-rights ws prices sides can.accepted can.cheap refl (blank-at 64) g
+  rights = gathered_rights ws prices sides can.accepted can.cheap refl (blank_at 64) g
 
   spells : Spells table depth
-  spells = subst (λ n. Spells table n) (sym deep) (spells-words ws table can.accepted rights)
+  spells = subst (λ n. Spells table n) (sym deep) (spells_words ws table can.accepted rights)
 
-  pub put-can-measure : CanMeasure table depth blank
-  put-can-measure = record { spells = spells; size = refl; zeros = blank-at 64 }
+  pub put_can_measure : CanMeasure table depth blank
+  put_can_measure = record { spells = spells; size = refl; zeros = blank_at 64 }
 
-  listed : Listed (length kept) 0 (recordsFrom edits records 0)
+  listed : Listed (length kept) 0 (records_from edits records 0)
   listed =
       let ran = can.ran in
-      subst (λ ws. Listed (length kept) 0 ws) (sym (records-all edits records ∙ ran.front))
-      (listed-walk ws can.accepted ran.walk ran.tokens ran.known)
+      subst (λ ws. Listed (length kept) 0 ws) (sym (records_all edits records ∙ ran.front))
+      (listed_walk ws can.accepted ran.walk ran.tokens ran.known)
 
   module _ {lengths : List ℕ} (m : Measured table depth lengths) where
-    pub put-can-size : CanSize edits records lengths (length kept)
-    put-can-size =
+    pub put_can_size : CanSize edits records lengths (length kept)
+    put_can_size =
         record {
           room = can.words;
           size = m.size;
@@ -68,21 +68,21 @@ module _ {ws prices sides edits : List ℕ} {records : ℕ} {kept : List ℕ} {r
           listed = listed;
         }
 
-    size : length (restored table depth raise kept 0 (recordsFrom edits records 0))
-        ≡ needed lengths (length kept) 0 (recordsFrom edits records 0)
-    size = restored-length m raise kept listed
+    size : length (restored table depth raise kept 0 (records_from edits records 0))
+        ≡ needed lengths (length kept) 0 (records_from edits records 0)
+    size = restored_length m raise kept listed
 
     -- What the walk makes is the words of the marks.
     words : (ms : List Move) (xs : List Mark) → Ran ws edits records (length kept) ms → MarksOf ws ms xs
-        → map (wordBy kept raise) xs ≡ restored table depth raise kept 0 (recordsFrom edits records 0)
+        → map (word_by kept raise) xs ≡ restored table depth raise kept 0 (records_from edits records 0)
     words ms xs ran marked =
-        marks-restored ws table can.accepted rights raise kept ran.walk ran.tokens ran.known marked
-        ∙ ap₂ (λ n l. restored table n raise kept 0 l) (sym deep) (sym (records-all edits records ∙ ran.front))
+        marks_restored ws table can.accepted rights raise kept ran.walk ran.tokens ran.known marked
+        ∙ ap₂ (λ n l. restored table n raise kept 0 l) (sym deep) (sym (records_all edits records ∙ ran.front))
 
-    module _ {room : ℕ} {b : Bool} (t : Tells (needed lengths (length kept) 0 (recordsFrom edits records 0) ≤ room) b) where
-      pub put-can-restore : {tokens : List ℕ} → room ≡ length tokens → b ≡ true
+    module _ {room : ℕ} {b : Bool} (t : Tells (needed lengths (length kept) 0 (records_from edits records 0) ≤ room) b) where
+      pub put_can_restore : {tokens : List ℕ} → room ≡ length tokens → b ≡ true
           → CanRestore table depth lengths edits records kept raise tokens
-      put-can-restore e f =
+      put_can_restore e f =
           record {
             spells = spells;
             measured = m;
@@ -92,15 +92,15 @@ module _ {ws prices sides edits : List ℕ} {records : ℕ} {kept : List ℕ} {r
             room = omega (arith, size, t.yes f);
           }
 
-      pub put-short : {old tokens : List ℕ} → room ≡ length old → b ≡ false → PutAs ws edits records kept raise old tokens Short
+      pub put_short : {old tokens : List ℕ} → room ≡ length old → b ≡ false → PutAs ws edits records kept raise old tokens Short
       unfolding PutOf
-      put-short {old} e f =
+      put_short {old} e f =
           record {
             puts = λ ms xs ran marked.
-                over (length (map (wordBy kept raise) xs)) (ap length (words ms xs ran marked) ∙ size);
+                over (length (map (word_by kept raise) xs)) (ap length (words ms xs ran marked) ∙ size);
           }
         where
-          over : (n : ℕ) → n ≡ needed lengths (length kept) 0 (recordsFrom edits records 0) → length old < n
+          over : (n : ℕ) → n ≡ needed lengths (length kept) 0 (records_from edits records 0) → length old < n
           over n h =
               dite (dec_lt (length old) n) (λ l. l) (λ l. absurd (t.no f (omega arith)))
 

@@ -8,35 +8,35 @@ use native.Mathlib.Decide.{dec_lt, ℕ_discrete}
 use native.Mathlib.Omega.{arith}
 use lib.ListN.{length, get_or, take}
 use Rattle.base.specs.Telling.{Tells, denied}
-use Rattle.strings.specs.Laws.{length-token, length-other}
+use Rattle.strings.specs.Laws.{length_token, length_other}
 use Rattle.marks.specs.Marking.{CanSize}
 use Rattle.marks.specs.Restoring.{
-  addedBy,
-  behindBy,
+  added_by,
+  behind_by,
   needed,
-  recordsFrom,
+  records_from,
   Names,
   Listed,
-  added-delete,
-  added-insert,
-  needed-also,
-  needed-none,
-  listed-first,
-  record-at,
-  records-over,
+  added_delete,
+  added_insert,
+  needed_also,
+  needed_none,
+  listed_first,
+  record_at_lem,
+  records_over,
 }
 
 -- What is left of the room, and what the records passed so far take of it.
 pub record Sizing (edits : List ℕ) (records : ℕ) (lengths : List ℕ) (n room left place i : ℕ) : Type 0 where
   pub low : i ≤ records
-  pub listed : Listed n place (recordsFrom edits records i)
+  pub listed : Listed n place (records_from edits records i)
   pub spent : ℕ
   pub rest : left + spent ≡ room
-  pub sum : spent + needed lengths n place (recordsFrom edits records i) ≡ needed lengths n 0 (recordsFrom edits records 0)
+  pub sum : spent + needed lengths n place (records_from edits records i) ≡ needed lengths n 0 (records_from edits records 0)
 
-pub size-begins : {edits : List ℕ} {records : ℕ} {lengths : List ℕ} {n room : ℕ} → CanSize edits records lengths n
+pub size_begins : {edits : List ℕ} {records : ℕ} {lengths : List ℕ} {n room : ℕ} → CanSize edits records lengths n
     → Sizing edits records lengths n room room 0 0
-size-begins can = record { low = omega arith; listed = can.listed; spent = 0; rest = omega arith; sum = omega arith }
+size_begins can = record { low = omega arith; listed = can.listed; spent = 0; rest = omega arith; sum = omega arith }
 
 -- The words of record i.
 abbrev pub kind_of : List ℕ → ℕ → ℕ
@@ -53,71 +53,71 @@ pub record Next (edits : List ℕ) (records n place i : ℕ) : Type 0 where
   pub rises : place ≤ place_of edits i
   pub within : place_of edits i ≤ n
   pub names : Names (kind_of edits i) (symbol_of edits i)
-  pub listed : Listed n (behindBy (kind_of edits i) (place_of edits i)) (recordsFrom edits records (i + 1))
+  pub listed : Listed n (behind_by (kind_of edits i) (place_of edits i)) (records_from edits records (i + 1))
 
 pub next_of : (edits : List ℕ) (records n place i : ℕ) → 3 * records ≤ length edits → i < records
-    → Listed n place (recordsFrom edits records i) → Next edits records n place i
+    → Listed n place (records_from edits records i) → Next edits records n place i
 next_of edits records n place i room l listed =
-    let h = listed-first (subst (λ ws. Listed n place ws) (record-at edits records i l room) listed) in
+    let h = listed_first (subst (λ ws. Listed n place ws) (record_at_lem edits records i l room) listed) in
     record { rises = h.0; within = h.1; names = h.2; listed = h.3 }
 
 -- No record adds more than 60,000 tokens.
-pub added-small : {edits : List ℕ} {records : ℕ} {lengths : List ℕ} {n k X : ℕ} → CanSize edits records lengths n → Names k X
-    → addedBy lengths k X ≤ 60000
-added-small {lengths = lengths} {k = k} {X = X} can names =
-    dite (ℕ_discrete k 1) (λ e. omega (arith, added-delete lengths X e))
+pub added_small : {edits : List ℕ} {records : ℕ} {lengths : List ℕ} {n k X : ℕ} → CanSize edits records lengths n → Names k X
+    → added_by lengths k X ≤ 60000
+added_small {lengths = lengths} {k = k} {X = X} can names =
+    dite (ℕ_discrete k 1) (λ e. omega (arith, added_delete lengths X e))
     (λ n.
     dite (dec_lt X 64)
-    (λ low. omega (arith, added-insert lengths X n, length-token lengths X low))
-    (λ high. omega (arith, added-insert lengths X n, length-other lengths X (omega arith), can.limit (X - 64) (omega (arith, (names n).1)))))
+    (λ low. omega (arith, added_insert lengths X n, length_token lengths X low))
+    (λ high. omega (arith, added_insert lengths X n, length_other lengths X (omega arith), can.limit (X - 64) (omega (arith, (names n).1)))))
 
 module _ {edits : List ℕ} {records : ℕ} {lengths : List ℕ} {n room left place i : ℕ} (can : CanSize edits records lengths n)
     (s : Sizing edits records lengths n room left place i) where
   module _ (l : i < records) where
-    pub size-next : Next edits records n place i
-    size-next = next_of edits records n place i can.room l s.listed
+    pub size_next : Next edits records n place i
+    size_next = next_of edits records n place i can.room l s.listed
 
-    parted : needed lengths n place (recordsFrom edits records i)
+    parted : needed lengths n place (records_from edits records i)
         ≡ place_of edits i - place
-        + (addedBy lengths (kind_of edits i) (symbol_of edits i)
-        + needed lengths n (behindBy (kind_of edits i) (place_of edits i)) (recordsFrom edits records (i + 1)))
+        + (added_by lengths (kind_of edits i) (symbol_of edits i)
+        + needed lengths n (behind_by (kind_of edits i) (place_of edits i)) (records_from edits records (i + 1)))
     parted =
-        ap (λ ws. needed lengths n place ws) (record-at edits records i l can.room)
-        ∙ needed-also lengths n place (kind_of edits i) (place_of edits i) (symbol_of edits i) (recordsFrom edits records (i + 1))
+        ap (λ ws. needed lengths n place ws) (record_at_lem edits records i l can.room)
+        ∙ needed_also lengths n place (kind_of edits i) (place_of edits i) (symbol_of edits i) (records_from edits records (i + 1))
 
     -- A record that takes more than is left,
-    pub size-over : {size : ℕ} → size ≡ place_of edits i - place + addedBy lengths (kind_of edits i) (symbol_of edits i) → left < size
-        → Tells (needed lengths n 0 (recordsFrom edits records 0) ≤ room) false
-    size-over e h = denied (λ f. omega (arith, parted, s.sum, s.rest, e))
+    pub size_over : {size : ℕ} → size ≡ place_of edits i - place + added_by lengths (kind_of edits i) (symbol_of edits i) → left < size
+        → Tells (needed lengths n 0 (records_from edits records 0) ≤ room) false
+    size_over e h = denied (λ f. omega (arith, parted, s.sum, s.rest, e))
 
     -- and one that takes no more.
-    pub size-goes : {size next : ℕ} → size ≡ place_of edits i - place + addedBy lengths (kind_of edits i) (symbol_of edits i) → size ≤ left
-        → next ≡ behindBy (kind_of edits i) (place_of edits i) → Sizing edits records lengths n room (left - size) next (i + 1)
-    size-goes {size} {next} e h f =
+    pub size_goes : {size next : ℕ} → size ≡ place_of edits i - place + added_by lengths (kind_of edits i) (symbol_of edits i) → size ≤ left
+        → next ≡ behind_by (kind_of edits i) (place_of edits i) → Sizing edits records lengths n room (left - size) next (i + 1)
+    size_goes {size} {next} e h f =
         record {
           low = omega arith;
-          listed = subst (λ p. Listed n p (recordsFrom edits records (i + 1))) (sym f) size-next.listed;
+          listed = subst (λ p. Listed n p (records_from edits records (i + 1))) (sym f) size_next.listed;
           spent = s.spent + size;
           rest = omega (arith, s.rest);
           sum =
-              ap (λ p. s.spent + size + needed lengths n p (recordsFrom edits records (i + 1))) f
+              ap (λ p. s.spent + size + needed lengths n p (records_from edits records (i + 1))) f
               ∙ omega (arith, parted, s.sum, e);
         }
 
-  last-needed : records ≤ i → needed lengths n place (recordsFrom edits records i) ≡ n - place
-  last-needed l = ap (λ ws. needed lengths n place ws) (records-over edits records i l can.room) ∙ needed-none lengths n place
+  last_needed : records ≤ i → needed lengths n place (records_from edits records i) ≡ n - place
+  last_needed l = ap (λ ws. needed lengths n place ws) (records_over edits records i l can.room) ∙ needed_none lengths n place
 
   -- Behind the last record.
-  pub size-passed : records ≤ i → n < place → Tells (needed lengths n 0 (recordsFrom edits records 0) ≤ room) true
-  size-passed l h =
+  pub size_passed : records ≤ i → n < place → Tells (needed lengths n 0 (records_from edits records 0) ≤ room) true
+  size_passed l h =
       record {
-        yes = λ e. omega (arith, last-needed l, s.sum, s.rest);
+        yes = λ e. omega (arith, last_needed l, s.sum, s.rest);
         no = λ e. absurd (true≢false e);
       }
 
-  pub size-ends : records ≤ i → (b : Bool) → Tells (n - place ≤ left) b → Tells (needed lengths n 0 (recordsFrom edits records 0) ≤ room) b
-  size-ends l b t =
+  pub size_ends : records ≤ i → (b : Bool) → Tells (n - place ≤ left) b → Tells (needed lengths n 0 (records_from edits records 0) ≤ room) b
+  size_ends l b t =
       record {
-        yes = λ e. let h = t.yes e in omega (arith, last-needed l, s.sum, s.rest);
-        no = λ e f. t.no e (omega (arith, last-needed l, s.sum, s.rest));
+        yes = λ e. let h = t.yes e in omega (arith, last_needed l, s.sum, s.rest);
+        no = λ e f. t.no e (omega (arith, last_needed l, s.sum, s.rest));
       }

@@ -10,14 +10,14 @@ use Rattle.marks.specs.declared.Put.{Put}
 use Rattle.marks.specs.declared.Put.TheVariants.{Whole, Short}
 
 -- What each answer stands for: the counts of the parse and the number of tokens, or the refusal.
-abbrev pub markingOf : Marking → Outcome (Counts × ℕ)
-markingOf (Marked counts size) = given (counts, size)
-markingOf (Refused r) = refused r
+abbrev pub marking_of : Marking → Outcome (Counts × ℕ)
+marking_of (Marked counts size) = given (counts, size)
+marking_of (Refused r) = refused r
 
 -- What stands for a mark: for a kept one the word that `kept` has at its place, for an added one its token, raised by `raise`.
-unfoldable pub wordBy : List ℕ → ℕ → Mark → ℕ
-wordBy kept raise (Mark.kept p t) = get_or kept p 0
-wordBy kept raise (Mark.added t) = t + raise
+unfoldable pub word_by : List ℕ → ℕ → Mark → ℕ
+word_by kept raise (Mark.kept p t) = get_or kept p 0
+word_by kept raise (Mark.added t) = t + raise
 
 -- What is lent besides the buffers: a word for each place of the log, and a raise that a word has room for.
 pub record Named (log kept : List ℕ) (raise : ℕ) : Type 0 where

@@ -1,20 +1,20 @@
 -- What the functions ask and give on the way to the result.
 use Rattle.std.specs.Prelude.{ℕ, ◌+◌, ◌-◌, ◌*◌, ◌≤◌, ◌<◌, ◌≡◌, List, map, length, get_or, take, drop}
 use Rattle.base.specs.Written.{written}
-use Rattle.grammar.specs.Words.{nonterminalCount}
+use Rattle.grammar.specs.Words.{nonterminal_count}
 use Rattle.grammar.specs.Derivation.{All}
-use Rattle.grammar.specs.Grammar.{grammarOf}
-use Rattle.grammar.specs.Moves.{Move, editWords, repaired}
-use Rattle.grammar.specs.Moves.{edits as editsOf}
+use Rattle.grammar.specs.Grammar.{grammar_of}
+use Rattle.grammar.specs.Moves.{Move, edit_words, repaired}
+use Rattle.grammar.specs.Moves.{edits as edits_of}
 use Rattle.grammar.specs.Marks.{Mark, MarksOf}
-use Rattle.grammar.specs.theory.Good.{Accepted}
-use Rattle.grammar.specs.theory.Places.{Walk}
-use Rattle.grammar.specs.theory.Tables.{Cheap}
+use Rattle.grammar.specs.Theory.Good.{Accepted}
+use Rattle.grammar.specs.Theory.Places.{Walk}
+use Rattle.grammar.specs.Theory.Tables.{Cheap}
 use Rattle.strings.specs.Lengths.{Measured}
 use Rattle.strings.specs.Spelled.{Spells}
-use Rattle.marks.specs.Answer.{PutOf, wordBy}
+use Rattle.marks.specs.Answer.{PutOf, word_by}
 use Rattle.marks.specs.Restored.{Ahead}
-use Rattle.marks.specs.Restoring.{addedWords, restored, recordsFrom, Names, Listed}
+use Rattle.marks.specs.Restoring.{added_words, restored, records_from, Names, Listed}
 use Rattle.marks.specs.declared.Put.{Put}
 
 -- ---- One record
@@ -28,12 +28,12 @@ pub record CanWrite (table : List ℕ) (depth : ℕ) (lengths : List ℕ) (kind 
   pub measured : Measured table depth lengths
   pub names : Names kind symbol
   pub small : raise ≤ 4096
-  pub room : at + length (addedWords table depth raise kind symbol) ≤ length tokens
+  pub room : at + length (added_words table depth raise kind symbol) ≤ length tokens
 
 -- What it adds stands in the buffer from `at` on.
 pub record WroteAdded (table : List ℕ) (depth kind symbol raise : ℕ) (old : List ℕ) (at : ℕ) (tokens : List ℕ) (end : ℕ) : Type 0 where
-  pub wrote : tokens ≡ written old at (addedWords table depth raise kind symbol)
-  pub ends : end ≡ at + length (addedWords table depth raise kind symbol)
+  pub wrote : tokens ≡ written old at (added_words table depth raise kind symbol)
+  pub ends : end ≡ at + length (added_words table depth raise kind symbol)
 
 -- ---- Kept words
 
@@ -51,22 +51,22 @@ pub record CanSize (edits : List ℕ) (records : ℕ) (lengths : List ℕ) (n : 
   pub room : 3 * records ≤ length edits
   pub size : length lengths ≡ 64
   pub limit : (k : ℕ) → k < 64 → get_or lengths k 0 ≤ 60000
-  pub listed : Listed n 0 (recordsFrom edits records 0)
+  pub listed : Listed n 0 (records_from edits records 0)
 
 pub record CanRestore (table : List ℕ) (depth : ℕ) (lengths edits : List ℕ) (records : ℕ) (kept : List ℕ) (raise : ℕ) (tokens : List ℕ)
     : Type 0 where
   pub spells : Spells table depth
   pub measured : Measured table depth lengths
   pub words : 3 * records ≤ length edits
-  pub listed : Listed (length kept) 0 (recordsFrom edits records 0)
+  pub listed : Listed (length kept) 0 (records_from edits records 0)
   pub small : raise ≤ 4096
-  pub room : length (restored table depth raise kept 0 (recordsFrom edits records 0)) ≤ length tokens
+  pub room : length (restored table depth raise kept 0 (records_from edits records 0)) ≤ length tokens
 
 -- The result stands in front of the buffer.
 pub record RestoredAs (table : List ℕ) (depth : ℕ) (edits : List ℕ) (records : ℕ) (kept : List ℕ) (raise : ℕ) (old tokens : List ℕ)
     (size : ℕ) : Type 0 where
-  pub wrote : tokens ≡ written old 0 (restored table depth raise kept 0 (recordsFrom edits records 0))
-  pub count : size ≡ length (restored table depth raise kept 0 (recordsFrom edits records 0))
+  pub wrote : tokens ≡ written old 0 (restored table depth raise kept 0 (records_from edits records 0))
+  pub count : size ≡ length (restored table depth raise kept 0 (records_from edits records 0))
 
 -- ---- The result of a run
 
@@ -75,12 +75,12 @@ pub record Ran (ws edits : List ℕ) (records n : ℕ) (ms : List Move) : Type 0
   pub ahead : List ℕ
   pub tokens : Ahead n 0 ahead
   pub walk : Walk 0 ahead ms
-  pub known : All (grammarOf ws).known (repaired ms)
-  pub front : take (3 * records) edits ≡ editWords (editsOf ms)
+  pub known : All (grammar_of ws).known (repaired ms)
+  pub front : take (3 * records) edits ≡ edit_words (edits_of ms)
 
 pub record CanPut (ws prices sides edits : List ℕ) (records : ℕ) (kept : List ℕ) (raise : ℕ) : Type 0 where
   pub accepted : Accepted ws
-  pub cheap : Cheap (grammarOf ws) (nonterminalCount ws) prices sides
+  pub cheap : Cheap (grammar_of ws) (nonterminal_count ws) prices sides
   pub words : 3 * records ≤ length edits
   pub small : raise ≤ 4096
   pub moves : List Move
@@ -89,4 +89,4 @@ pub record CanPut (ws prices sides edits : List ℕ) (records : ℕ) (kept : Lis
 -- The marks of the moves are put into the buffer, each as its word, or do not fit.
 pub record PutAs (ws edits : List ℕ) (records : ℕ) (kept : List ℕ) (raise : ℕ) (old tokens : List ℕ) (r : Put) : Type 0 where
   pub puts : (ms : List Move) (xs : List Mark) → Ran ws edits records (length kept) ms → MarksOf ws ms xs
-      → PutOf (map (wordBy kept raise) xs) old tokens r
+      → PutOf (map (word_by kept raise) xs) old tokens r

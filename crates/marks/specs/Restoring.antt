@@ -4,20 +4,20 @@ use Rattle.std.specs.Prelude.{ℕ, suc, ◌+◌, ◌-◌, ◌*◌, ◌≤◌, �
 use Rattle.std.proofs.Common.{sym, ap, ap₂, ◌∙◌, arith, eq-eqb, ne_eqb, length-append, length-drop, drop-cons, length-take-le, get_or-take}
 use Rattle.std.proofs.Math.Logic.{dite}
 use Rattle.std.proofs.Math.Decide.{dec_lt, ℕ_discrete}
-use Rattle.strings.specs.Laws.{raised-length, length-token, length-other, spelt-token}
+use Rattle.strings.specs.Laws.{raised_length, length_token, length_other, spelt_token}
 use Rattle.strings.specs.Lengths.{Measured}
-use Rattle.strings.specs.Spelling.{spelt, raised, lengthIn}
+use Rattle.strings.specs.Spelling.{spelt, raised, length_in}
 
 -- The first place that a record leaves to be passed: a deleted token is passed by it.
-unfoldable pub behindBy : ℕ → ℕ → ℕ
-behindBy kind at = cond (eqb kind 1) (at + 1) at
+unfoldable pub behind_by : ℕ → ℕ → ℕ
+behind_by kind at = cond (eqb kind 1) (at + 1) at
 
 -- How many tokens a record adds, by the table of lengths, and which.
-unfoldable pub addedBy : List ℕ → ℕ → ℕ → ℕ
-addedBy lengths kind X = cond (eqb kind 1) 0 (lengthIn lengths X)
+unfoldable pub added_by : List ℕ → ℕ → ℕ → ℕ
+added_by lengths kind X = cond (eqb kind 1) 0 (length_in lengths X)
 
-unfoldable pub addedWords : List ℕ → ℕ → ℕ → ℕ → ℕ → List ℕ
-addedWords table depth raise kind X = cond (eqb kind 1) [] (raised raise (spelt table depth X))
+unfoldable pub added_words : List ℕ → ℕ → ℕ → ℕ → ℕ → List ℕ
+added_words table depth raise kind X = cond (eqb kind 1) [] (raised raise (spelt table depth X))
 
 -- Kept tokens up to the record's place, then what it adds. Behind the last record all is kept.
 unfoldable pub restored : List ℕ → ℕ → ℕ → List ℕ → ℕ → List ℕ → List ℕ
@@ -25,14 +25,14 @@ restored table depth raise kept p [] = drop p kept
 restored table depth raise kept p (k ∷ []) = drop p kept
 restored table depth raise kept p (k ∷ q ∷ []) = drop p kept
 restored table depth raise kept p (k ∷ q ∷ X ∷ ws) =
-    take (q - p) (drop p kept) ++ (addedWords table depth raise k X ++ restored table depth raise kept (behindBy k q) ws)
+    take (q - p) (drop p kept) ++ (added_words table depth raise k X ++ restored table depth raise kept (behind_by k q) ws)
 
 -- How many words that are; n is the length of the log.
 unfoldable pub needed : List ℕ → ℕ → ℕ → List ℕ → ℕ
 needed lengths n p [] = n - p
 needed lengths n p (k ∷ []) = n - p
 needed lengths n p (k ∷ q ∷ []) = n - p
-needed lengths n p (k ∷ q ∷ X ∷ ws) = q - p + (addedBy lengths k X + needed lengths n (behindBy k q) ws)
+needed lengths n p (k ∷ q ∷ X ∷ ws) = q - p + (added_by lengths k X + needed lengths n (behind_by k q) ws)
 
 -- A record that does not delete names a symbol.
 abbrev pub Names : ℕ → ℕ → Type 0
@@ -41,64 +41,64 @@ Names k X = (k ≡ 1 → ⊥) → (1 ≤ X) × (X < 128)
 -- The records name places that never fall, none past END's, and symbols.
 pub data Listed (n : ℕ) : ℕ → List ℕ → Type 0 where
   over : {p : ℕ} → p ≤ n + 1 → Listed n p []
-  also : {p k q X : ℕ} {ws : List ℕ} → p ≤ q → q ≤ n → Names k X → Listed n (behindBy k q) ws → Listed n p (k ∷ q ∷ X ∷ ws)
+  also : {p k q X : ℕ} {ws : List ℕ} → p ≤ q → q ≤ n → Names k X → Listed n (behind_by k q) ws → Listed n p (k ∷ q ∷ X ∷ ws)
 
 -- ---- By the kind of a record
 
-pub behind-delete : {k : ℕ} (q : ℕ) → k ≡ 1 → behindBy k q ≡ q + 1
-unfolding behindBy
-behind-delete {k} q e = ap (λ (b : Bool). cond b (q + 1) q) (eq-eqb k 1 e)
+pub behind_delete : {k : ℕ} (q : ℕ) → k ≡ 1 → behind_by k q ≡ q + 1
+unfolding behind_by
+behind_delete {k} q e = ap (λ (b : Bool). cond b (q + 1) q) (eq-eqb k 1 e)
 
-pub behind-insert : {k : ℕ} (q : ℕ) → (k ≡ 1 → ⊥) → behindBy k q ≡ q
-unfolding behindBy
-behind-insert {k} q n = ap (λ (b : Bool). cond b (q + 1) q) (ne_eqb k 1 n)
+pub behind_insert : {k : ℕ} (q : ℕ) → (k ≡ 1 → ⊥) → behind_by k q ≡ q
+unfolding behind_by
+behind_insert {k} q n = ap (λ (b : Bool). cond b (q + 1) q) (ne_eqb k 1 n)
 
-pub added-delete : {k : ℕ} (lengths : List ℕ) (X : ℕ) → k ≡ 1 → addedBy lengths k X ≡ 0
-unfolding addedBy
-added-delete {k} lengths X e = ap (λ (b : Bool). cond b 0 (lengthIn lengths X)) (eq-eqb k 1 e)
+pub added_delete : {k : ℕ} (lengths : List ℕ) (X : ℕ) → k ≡ 1 → added_by lengths k X ≡ 0
+unfolding added_by
+added_delete {k} lengths X e = ap (λ (b : Bool). cond b 0 (length_in lengths X)) (eq-eqb k 1 e)
 
-pub added-insert : {k : ℕ} (lengths : List ℕ) (X : ℕ) → (k ≡ 1 → ⊥) → addedBy lengths k X ≡ lengthIn lengths X
-unfolding addedBy
-added-insert {k} lengths X n = ap (λ (b : Bool). cond b 0 (lengthIn lengths X)) (ne_eqb k 1 n)
+pub added_insert : {k : ℕ} (lengths : List ℕ) (X : ℕ) → (k ≡ 1 → ⊥) → added_by lengths k X ≡ length_in lengths X
+unfolding added_by
+added_insert {k} lengths X n = ap (λ (b : Bool). cond b 0 (length_in lengths X)) (ne_eqb k 1 n)
 
-pub words-delete : {k : ℕ} (table : List ℕ) (depth raise X : ℕ) → k ≡ 1 → addedWords table depth raise k X ≡ []
-unfolding addedWords
-words-delete {k} table depth raise X e = ap (λ (b : Bool). cond b [] (raised raise (spelt table depth X))) (eq-eqb k 1 e)
+pub words_delete : {k : ℕ} (table : List ℕ) (depth raise X : ℕ) → k ≡ 1 → added_words table depth raise k X ≡ []
+unfolding added_words
+words_delete {k} table depth raise X e = ap (λ (b : Bool). cond b [] (raised raise (spelt table depth X))) (eq-eqb k 1 e)
 
-pub words-insert : {k : ℕ} (table : List ℕ) (depth raise X : ℕ) → (k ≡ 1 → ⊥)
-    → addedWords table depth raise k X ≡ raised raise (spelt table depth X)
-unfolding addedWords
-words-insert {k} table depth raise X n = ap (λ (b : Bool). cond b [] (raised raise (spelt table depth X))) (ne_eqb k 1 n)
+pub words_insert : {k : ℕ} (table : List ℕ) (depth raise X : ℕ) → (k ≡ 1 → ⊥)
+    → added_words table depth raise k X ≡ raised raise (spelt table depth X)
+unfolding added_words
+words_insert {k} table depth raise X n = ap (λ (b : Bool). cond b [] (raised raise (spelt table depth X))) (ne_eqb k 1 n)
 
 -- ---- A record, and what is behind the last
 
-pub restored-also : (table : List ℕ) (depth raise : ℕ) (kept : List ℕ) (p k q X : ℕ) (ws : List ℕ)
+pub restored_also : (table : List ℕ) (depth raise : ℕ) (kept : List ℕ) (p k q X : ℕ) (ws : List ℕ)
     → restored table depth raise kept p (k ∷ q ∷ X ∷ ws)
-    ≡ take (q - p) (drop p kept) ++ (addedWords table depth raise k X ++ restored table depth raise kept (behindBy k q) ws)
+    ≡ take (q - p) (drop p kept) ++ (added_words table depth raise k X ++ restored table depth raise kept (behind_by k q) ws)
 unfolding restored
-restored-also table depth raise kept p k q X ws = refl
+restored_also table depth raise kept p k q X ws = refl
 
-pub restored-none : (table : List ℕ) (depth raise : ℕ) (kept : List ℕ) (p : ℕ) → restored table depth raise kept p [] ≡ drop p kept
+pub restored_none : (table : List ℕ) (depth raise : ℕ) (kept : List ℕ) (p : ℕ) → restored table depth raise kept p [] ≡ drop p kept
 unfolding restored
-restored-none table depth raise kept p = refl
+restored_none table depth raise kept p = refl
 
-pub needed-also : (lengths : List ℕ) (n p k q X : ℕ) (ws : List ℕ)
-    → needed lengths n p (k ∷ q ∷ X ∷ ws) ≡ q - p + (addedBy lengths k X + needed lengths n (behindBy k q) ws)
+pub needed_also : (lengths : List ℕ) (n p k q X : ℕ) (ws : List ℕ)
+    → needed lengths n p (k ∷ q ∷ X ∷ ws) ≡ q - p + (added_by lengths k X + needed lengths n (behind_by k q) ws)
 unfolding needed
-needed-also lengths n p k q X ws = refl
+needed_also lengths n p k q X ws = refl
 
-pub needed-none : (lengths : List ℕ) (n p : ℕ) → needed lengths n p [] ≡ n - p
+pub needed_none : (lengths : List ℕ) (n p : ℕ) → needed lengths n p [] ≡ n - p
 unfolding needed
-needed-none lengths n p = refl
+needed_none lengths n p = refl
 
 -- The places and the symbol of the first record.
-pub listed-first : {n p k q X : ℕ} {ws : List ℕ} → Listed n p (k ∷ q ∷ X ∷ ws)
-    → (p ≤ q) × (q ≤ n) × Names k X × Listed n (behindBy k q) ws
-listed-first (Listed.also a b c d) = (a, b, c, d)
+pub listed_first : {n p k q X : ℕ} {ws : List ℕ} → Listed n p (k ∷ q ∷ X ∷ ws)
+    → (p ≤ q) × (q ≤ n) × Names k X × Listed n (behind_by k q) ws
+listed_first (Listed.also a b c d) = (a, b, c, d)
 
-pub listed-low : {n p : ℕ} {ws : List ℕ} → Listed n p ws → p ≤ n + 1
-listed-low (Listed.over l) = l
-listed-low (Listed.also a b c d) = omega arith
+pub listed_low : {n p : ℕ} {ws : List ℕ} → Listed n p ws → p ≤ n + 1
+listed_low (Listed.over l) = l
+listed_low (Listed.also a b c d) = omega arith
 
 -- ---- As many words as are needed
 
@@ -107,48 +107,48 @@ pub part_length : (kept : List ℕ) (p q : ℕ) → q ≤ length kept → length
 part_length kept p q h = length-take-le (q - p) (drop p kept) (omega (arith, length-drop p kept))
 
 module _ {table lengths : List ℕ} {depth : ℕ} (m : Measured table depth lengths) (raise : ℕ) where
-  string-size : (X : ℕ) → X < 128 → lengthIn lengths X ≡ length (spelt table depth X)
-  string-size X l =
+  string_size : (X : ℕ) → X < 128 → length_in lengths X ≡ length (spelt table depth X)
+  string_size X l =
       dite (dec_lt X 64)
-      (λ low. length-token lengths X low ∙ sym (ap length (spelt-token table depth X low)))
+      (λ low. length_token lengths X low ∙ sym (ap length (spelt_token table depth X low)))
       (λ high.
       let e : 64 + (X - 64) ≡ X = omega arith in
-      length-other lengths X (omega arith) ∙ (m.exact (X - 64) (omega arith) ∙ ap (λ Y. length (spelt table depth Y)) e))
+      length_other lengths X (omega arith) ∙ (m.exact (X - 64) (omega arith) ∙ ap (λ Y. length (spelt table depth Y)) e))
 
   -- What a record adds is as long as the table says.
-  pub added-length : (k X : ℕ) → Names k X → length (addedWords table depth raise k X) ≡ addedBy lengths k X
-  added-length k X names =
+  pub added_length : (k X : ℕ) → Names k X → length (added_words table depth raise k X) ≡ added_by lengths k X
+  added_length k X names =
       dite (ℕ_discrete k 1)
-      (λ e. ap length (words-delete table depth raise X e) ∙ sym (added-delete lengths X e))
+      (λ e. ap length (words_delete table depth raise X e) ∙ sym (added_delete lengths X e))
       (λ n.
-      ap length (words-insert table depth raise X n)
-      ∙ (raised-length raise (spelt table depth X) ∙ (sym (string-size X (names n).1) ∙ sym (added-insert lengths X n))))
+      ap length (words_insert table depth raise X n)
+      ∙ (raised_length raise (spelt table depth X) ∙ (sym (string_size X (names n).1) ∙ sym (added_insert lengths X n))))
 
-  pub restored-length : (kept : List ℕ) {p : ℕ} {ws : List ℕ} → Listed (length kept) p ws
+  pub restored_length : (kept : List ℕ) {p : ℕ} {ws : List ℕ} → Listed (length kept) p ws
       → length (restored table depth raise kept p ws) ≡ needed lengths (length kept) p ws
-  restored-length kept {p} (Listed.over l) =
-      ap length (restored-none table depth raise kept p) ∙ (length-drop p kept ∙ sym (needed-none lengths (length kept) p))
-  restored-length kept {p} (Listed.also {k = k} {q = q} {X = X} {ws = ws} l h names r) =
-      let rest : List ℕ = restored table depth raise kept (behindBy k q) ws in
-      ap length (restored-also table depth raise kept p k q X ws)
-      ∙ (length-append (take (q - p) (drop p kept)) (addedWords table depth raise k X ++ rest)
+  restored_length kept {p} (Listed.over l) =
+      ap length (restored_none table depth raise kept p) ∙ (length-drop p kept ∙ sym (needed_none lengths (length kept) p))
+  restored_length kept {p} (Listed.also {k = k} {q = q} {X = X} {ws = ws} l h names r) =
+      let rest : List ℕ = restored table depth raise kept (behind_by k q) ws in
+      ap length (restored_also table depth raise kept p k q X ws)
+      ∙ (length-append (take (q - p) (drop p kept)) (added_words table depth raise k X ++ rest)
       ∙ (ap₂ (λ a b. a + b) (part_length kept p q h)
-      (length-append (addedWords table depth raise k X) rest
-      ∙ ap₂ (λ a b. a + b) (added-length k X names) (restored-length kept r))
-      ∙ sym (needed-also lengths (length kept) p k q X ws)))
+      (length-append (added_words table depth raise k X) rest
+      ∙ ap₂ (λ a b. a + b) (added_length k X names) (restored_length kept r))
+      ∙ sym (needed_also lengths (length kept) p k q X ws)))
 
 -- ---- The records in the edit buffer
 
 -- The words of the records from record i on, of so many.
-unfoldable pub recordsFrom : List ℕ → ℕ → ℕ → List ℕ
-recordsFrom edits records i = drop (3 * i) (take (3 * records) edits)
+unfoldable pub records_from : List ℕ → ℕ → ℕ → List ℕ
+records_from edits records i = drop (3 * i) (take (3 * records) edits)
 
 -- Record i, and those behind it.
-pub record-at : (edits : List ℕ) (records i : ℕ) → i < records → 3 * records ≤ length edits
-    → recordsFrom edits records i
-    ≡ get_or edits (3 * i) 0 ∷ get_or edits (3 * i + 1) 0 ∷ get_or edits (3 * i + 2) 0 ∷ recordsFrom edits records (i + 1)
-unfolding recordsFrom
-record-at edits records i l room =
+pub record_at_lem : (edits : List ℕ) (records i : ℕ) → i < records → 3 * records ≤ length edits
+    → records_from edits records i
+    ≡ get_or edits (3 * i) 0 ∷ get_or edits (3 * i + 1) 0 ∷ get_or edits (3 * i + 2) 0 ∷ records_from edits records (i + 1)
+unfolding records_from
+record_at_lem edits records i l room =
     let front : List ℕ = take (3 * records) edits in
     let size : length front ≡ 3 * records = length-take-le (3 * records) edits room in
     let at : (j : ℕ) → j < 3 * records → get_or front j 0 ≡ get_or edits j 0 = λ j h. get_or-take (3 * records) edits j 0 h in
@@ -166,9 +166,9 @@ record-at edits records i l room =
     (ap (λ n. drop n front) three
     ∙ (third ∙ ap₂ (λ x l. x ∷ l) (at (3 * i + 2) (omega arith)) (ap (λ n. drop n front) next)))))
 
-pub records-over : (edits : List ℕ) (records i : ℕ) → records ≤ i → 3 * records ≤ length edits → recordsFrom edits records i ≡ []
-unfolding recordsFrom
-records-over edits records i l room =
+pub records_over : (edits : List ℕ) (records i : ℕ) → records ≤ i → 3 * records ≤ length edits → records_from edits records i ≡ []
+unfolding records_from
+records_over edits records i l room =
     drop_past (3 * i) (take (3 * records) edits) (omega (arith, length-take-le (3 * records) edits room))
   where
     drop_past : (n : ℕ) (l : List ℕ) → length l ≤ n → drop n l ≡ []
@@ -178,6 +178,6 @@ records-over edits records i l room =
         no_length [] e = refl
         no_length (x ∷ l) e = absurd (omega arith)
 
-pub records-all : (edits : List ℕ) (records : ℕ) → recordsFrom edits records 0 ≡ take (3 * records) edits
-unfolding recordsFrom
-records-all edits records = refl
+pub records_all : (edits : List ℕ) (records : ℕ) → records_from edits records 0 ≡ take (3 * records) edits
+unfolding records_from
+records_all edits records = refl

@@ -4,7 +4,7 @@ ghost use Rattle.std.specs.Prelude.{true, ◌≡◌, ◌≤◌, ◌<◌, length}
 ghost use Rattle.base.specs.Telling.{Tells};
 ghost use Rattle.grammar.specs.Marks.{Marks, MarksAnswer};
 ghost use Rattle.grammar.specs.Run.{only10};
-ghost use Rattle.marks.specs.Answer.{Named, PutOf, markingOf, wordBy};
+ghost use Rattle.marks.specs.Answer.{Named, PutOf, marking_of, word_by};
 ghost use Rattle.marks.specs.Marking.{
   CanAdd,
   CanCopy,
@@ -17,12 +17,12 @@ ghost use Rattle.marks.specs.Marking.{
   RestoredAs,
   WroteAdded,
 };
-ghost use Rattle.marks.specs.Restoring.{addedBy, behindBy, needed, recordsFrom};
+ghost use Rattle.marks.specs.Restoring.{added_by, behind_by, needed, records_from};
 
 use grammar::{Counts, Refusal};
 use parser::{Asking, Parsing};
 
-// The answer: the counts of the parse and the number of tokens, or a refusal. `markingOf` of specs/Answer.antt says what each stands for.
+// The answer: the counts of the parse and the number of tokens, or a refusal. `marking_of` of specs/Answer.antt says what each stands for.
 #[derive(Drop)]
 pub enum Marking {
     Marked(Counts, usize),
@@ -50,7 +50,7 @@ pub fn marks(
     tokens: &mut [u16],
 ) -> Marking
     ensures { MarksAnswer words.now log.now (length edits.old) (length rules.old)
-        (length tokens.old) (markingOf result) edits.new rules.new tokens.new }
+        (length tokens.old) (marking_of result) edits.new rules.new tokens.new }
 {
     marks_as(words, log, true, log, 0, edits, rules, tokens)
 }
@@ -68,8 +68,8 @@ pub fn marks_as(
     tokens: &mut [u16],
 ) -> Marking
     requires { Named log.now kept.now raise }
-    ensures { Marks (wordBy kept.now raise) (only10 (asked ≡ true)) words.now log.now
-        (length edits.old) (length rules.old) (length tokens.old) (markingOf result) edits.new
+    ensures { Marks (word_by kept.now raise) (only10 (asked ≡ true)) words.now log.now
+        (length edits.old) (length rules.old) (length tokens.old) (marking_of result) edits.new
         rules.new tokens.new }
 {
     let mut prices = [0u32; 256];
@@ -157,7 +157,7 @@ fn put_log(kept: &[u16], tokens: &mut [u16]) -> Put
 // counted down, so that no sum can grow too large.
 fn fits(edits: &[u16], records: usize, lengths: &[usize], tokens: usize, room: usize) -> bool
     requires { CanSize edits.now records lengths.now tokens }
-    ensures { Tells (needed lengths.now tokens 0 (recordsFrom edits.now records 0) ≤ room) result }
+    ensures { Tells (needed lengths.now tokens 0 (records_from edits.now records 0) ≤ room) result }
 {
     let mut left = room;
     let mut place = 0;
@@ -182,7 +182,7 @@ fn fits(edits: &[u16], records: usize, lengths: &[usize], tokens: usize, room: u
 // How many tokens a record adds.
 fn added(lengths: &[usize], kind: u16, symbol: u16) -> usize
     requires { CanAdd lengths.now kind symbol }
-    ensures { result ≡ addedBy lengths.now kind symbol }
+    ensures { result ≡ added_by lengths.now kind symbol }
 {
     if kind == DELETE {
         return 0;
@@ -193,7 +193,7 @@ fn added(lengths: &[usize], kind: u16, symbol: u16) -> usize
 // The first place that a record leaves to be passed: a deleted token is passed by it.
 fn behind(kind: u16, at: usize) -> usize
     requires { at < 65536 }
-    ensures { result ≡ behindBy kind at }
+    ensures { result ≡ behind_by kind at }
 {
     if kind == DELETE {
         return at + 1;

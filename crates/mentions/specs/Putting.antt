@@ -2,11 +2,11 @@
 use Rattle.std.specs.Prelude.{ℕ, ◌+◌, ◌-◌, ◌*◌, ◌/◌, ◌%◌, ◌≤◌, ◌<◌, ◌≡◌, refl, Bool, true, ◌⊎◌, ◌↔◌, length, get_or, drop}
 use Rattle.std.proofs.Common.{sym, ap, ◌∙◌, subst, inl, inr, ⊎_elim, arith}
 use mathlib.Core.List.{List, [], ◌∷◌, Memᴰ}
-use Rattle.grammar.specs.Words.{rightSide}
-use Rattle.shape.specs.Accessors.{SizeOf, SymbolAt, right-none, right-from}
+use Rattle.grammar.specs.Words.{right_side}
+use Rattle.shape.specs.Accessors.{SizeOf, SymbolAt, right_none, right_from}
 use Rattle.sets.specs.Bits.{member}
 use Rattle.sets.specs.Operations.{with}
-use Rattle.sets.specs.Laws.{empty-none, with-same, with-keeps, with_cases}
+use Rattle.sets.specs.Laws.{empty_none, with_same, with_keeps, with_cases}
 use Rattle.growth.specs.Added.{Added}
 use Rattle.mentions.specs.Mentions.{InRow}
 
@@ -21,19 +21,19 @@ pub record Put (r p : ℕ) (old new : List ℕ) : Type 0 where
   pub here : InRow new r p
   pub source : (s q : ℕ) → s < 65 → InRow new s q → InRow old s q ⊎ ((s ≡ r) × (q ≡ p))
 
-pub put-added : {r p mask : ℕ} {old new : List ℕ} {b : Bool} → r < 65 → mask ≡ with 0 (p % 64)
+pub put_added : {r p mask : ℕ} {old new : List ℕ} {b : Bool} → r < 65 → mask ≡ with 0 (p % 64)
     → Added old (65 * (p / 64) + r) mask new b → Put r p old new
-put-added {r} {p} {mask} small is a =
+put_added {r} {p} {mask} small is a =
     record {
       size = a.same;
       keeps = λ s q m. a.keeps (65 * (q / 64) + s) (q % 64) m;
-      here = a.holds (p % 64) (subst (λ m. member m (p % 64) ≡ true) (sym is) (with-same 0 (p % 64)));
+      here = a.holds (p % 64) (subst (λ m. member m (p % 64) ≡ true) (sym is) (with_same 0 (p % 64)));
       source = λ s q below m.
           ⊎_elim inl
           (λ h.
           let at = h.0 in
           let bit : p % 64 ≡ q % 64 =
-          ⊎_elim (λ e. e) (λ n. absurd (empty-none (q % 64) n))
+          ⊎_elim (λ e. e) (λ n. absurd (empty_none (q % 64) n))
           (with_cases 0 (p % 64) (q % 64) (subst (λ n. member n (q % 64) ≡ true) is h.1)) in
           inr (omega arith, omega arith))
           (a.source (65 * (q / 64) + s) (q % 64) m);
@@ -59,18 +59,18 @@ named_none low =
       origin = λ k m. inl m;
     }
 
-pub named-one : {x p named more : ℕ} {old new : List ℕ} → 64 ≤ x → Put (x - 64) p old new → more ≡ with named (x - 64)
+pub named_one : {x p named more : ℕ} {old new : List ℕ} → 64 ≤ x → Put (x - 64) p old new → more ≡ with named (x - 64)
     → Named x p named old new more
-named-one {x} {p} {named} {more} {old} {new} high put is =
+named_one {x} {p} {named} {more} {old} {new} high put is =
     record {
       size = put.size;
       keeps = put.keeps;
       here = λ k e.
           let at : x - 64 ≡ k = omega arith in (
             subst (λ i. InRow new i p) at put.here,
-            subst (λ s. member s k ≡ true) (sym is) (subst (λ i. member (with named (x - 64)) i ≡ true) at (with-same named (x - 64))),
+            subst (λ s. member s k ≡ true) (sym is) (subst (λ i. member (with named (x - 64)) i ≡ true) at (with_same named (x - 64))),
           );
-      holds = λ k m. subst (λ s. member s k ≡ true) (sym is) (with-keeps named (x - 64) k m);
+      holds = λ k m. subst (λ s. member s k ≡ true) (sym is) (with_keeps named (x - 64) k m);
       source = λ s q b m. ⊎_elim inl (λ h. let e = h.0 in inr (omega arith, h.1)) (put.source s q b m);
       origin = λ k m.
           ⊎_elim (λ e. inr (omega arith)) inl (with_cases named (x - 64) k (subst (λ s. member s k ≡ true) is m));
@@ -83,12 +83,12 @@ pub record Plain (p named : ℕ) (old new : List ℕ) : Type 0 where
   pub here : named ≡ 0 → InRow new 64 p
   pub source : (s q : ℕ) → s < 65 → InRow new s q → InRow old s q ⊎ ((s ≡ 64) × (q ≡ p) × (named ≡ 0))
 
-pub plain-none : {p named : ℕ} {old : List ℕ} → (named ≡ 0 → ⊥) → Plain p named old old
-plain-none some =
+pub plain_none : {p named : ℕ} {old : List ℕ} → (named ≡ 0 → ⊥) → Plain p named old old
+plain_none some =
     record { size = refl; keeps = λ s q m. m; here = λ e. absurd (some e); source = λ s q b m. inl m }
 
-pub plain-one : {p named : ℕ} {old new : List ℕ} → Put 64 p old new → named ≡ 0 → Plain p named old new
-plain-one put none =
+pub plain_one : {p named : ℕ} {old new : List ℕ} → Put 64 p old new → named ≡ 0 → Plain p named old new
+plain_one put none =
     record {
       size = put.size;
       keeps = put.keeps;
@@ -98,31 +98,31 @@ plain-one put none =
 
 -- Rule p was put into the rows of the nonterminals that stand in its right side from symbol i on, and `named` has those.
 pub record Mentioned (ws : List ℕ) (p i : ℕ) (old new : List ℕ) (named : ℕ) : Type 0 where
-  pub inside : i ≤ length (rightSide ws p)
+  pub inside : i ≤ length (right_side ws p)
   pub size : length new ≡ length old
   pub keeps : (s q : ℕ) → InRow old s q → InRow new s q
-  pub puts : (k : ℕ) → Memᴰ (64 + k) (drop i (rightSide ws p)) → InRow new k p × (member named k ≡ true)
-  pub source : (s q : ℕ) → s < 65 → InRow new s q → InRow old s q ⊎ (Memᴰ (64 + s) (drop i (rightSide ws p)) × (q ≡ p))
-  pub origin : (k : ℕ) → member named k ≡ true → Memᴰ (64 + k) (drop i (rightSide ws p))
+  pub puts : (k : ℕ) → Memᴰ (64 + k) (drop i (right_side ws p)) → InRow new k p × (member named k ≡ true)
+  pub source : (s q : ℕ) → s < 65 → InRow new s q → InRow old s q ⊎ (Memᴰ (64 + s) (drop i (right_side ws p)) × (q ≡ p))
+  pub origin : (k : ℕ) → member named k ≡ true → Memᴰ (64 + k) (drop i (right_side ws p))
 
 no_member : {x : ℕ} {l : List ℕ} → l ≡ [] → Memᴰ x l → ⊥
 no_member e (Memᴰ.head q) = absurd (omega (arith, ap length e))
 no_member e (Memᴰ.tail m) = absurd (omega (arith, ap length e))
 
-pub mention-begins : {ws : List ℕ} {p n : ℕ} {old : List ℕ} → SizeOf ws p n → Mentioned ws p n old old 0
-mention-begins size =
+pub mention_begins : {ws : List ℕ} {p n : ℕ} {old : List ℕ} → SizeOf ws p n → Mentioned ws p n old old 0
+mention_begins size =
     record {
       inside = omega (arith, size.is);
       size = refl;
       keeps = λ s q m. m;
-      puts = λ k m. absurd (no_member (right-none size) m);
+      puts = λ k m. absurd (no_member (right_none size) m);
       source = λ s q b m. inl m;
-      origin = λ k m. absurd (empty-none k m);
+      origin = λ k m. absurd (empty_none k m);
     }
 
-pub mention-goes : {ws : List ℕ} {p i x named more : ℕ} {old mid new : List ℕ} → Mentioned ws p i old mid named → 0 < i
+pub mention_goes : {ws : List ℕ} {p i x named more : ℕ} {old mid new : List ℕ} → Mentioned ws p i old mid named → 0 < i
     → SymbolAt ws p (i - 1) x → Named x p named mid new more → Mentioned ws p (i - 1) old new more
-mention-goes {ws} {p} {i} {x} {named} {more} {old} {mid} {new} w some at n =
+mention_goes {ws} {p} {i} {x} {named} {more} {old} {mid} {new} w some at n =
     record {
       inside = omega (arith, w.inside);
       size = n.size ∙ w.size;
@@ -138,13 +138,13 @@ mention-goes {ws} {p} {i} {x} {named} {more} {old} {mid} {new} w some at n =
           (⊎_elim (λ h. Memᴰ.tail (w.origin k h)) (λ e. Memᴰ.head (sym e)) (n.origin k m));
     }
   where
-    from : drop (i - 1) (rightSide ws p) ≡ x ∷ drop i (rightSide ws p)
-    from = right-from some w.inside at
+    from : drop (i - 1) (right_side ws p) ≡ x ∷ drop i (right_side ws p)
+    from = right_from some w.inside at
 
-    puts : (k : ℕ) → Memᴰ (64 + k) (x ∷ drop i (rightSide ws p)) → InRow new k p × (member more k ≡ true)
+    puts : (k : ℕ) → Memᴰ (64 + k) (x ∷ drop i (right_side ws p)) → InRow new k p × (member more k ≡ true)
     puts k (Memᴰ.head e) = n.here k (sym e)
     puts k (Memᴰ.tail m) = let h = w.puts k m in (n.keeps k p h.0, n.holds k h.1)
 
-pub mention-ends : {ws : List ℕ} {p i named : ℕ} {old new : List ℕ} → Mentioned ws p i old new named → i ≡ 0
+pub mention_ends : {ws : List ℕ} {p i named : ℕ} {old new : List ℕ} → Mentioned ws p i old new named → i ≡ 0
     → Mentioned ws p 0 old new named
-mention-ends {ws} {p} {named = named} {old} {new} w e = subst (λ n. Mentioned ws p n old new named) e w
+mention_ends {ws} {p} {named = named} {old} {new} w e = subst (λ n. Mentioned ws p n old new named) e w

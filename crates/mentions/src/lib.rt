@@ -2,7 +2,7 @@
 // cost that changes sends it to those rules alone. A set of rules is a row of bits, 64 in a word; word w of row r stands at 65 w + r, so that
 // 64 rules take 65 words and 256 take 260.
 ghost use Rattle.std.specs.Prelude.{◌≡◌, ◌<◌};
-ghost use Rattle.grammar.specs.Words.{ruleCount};
+ghost use Rattle.grammar.specs.Words.{rule_count};
 ghost use Rattle.shape.specs.Ready.{Ready};
 ghost use Rattle.base.specs.Blank.{Blank};
 ghost use Rattle.mentions.specs.Mentions.{Clear, MentionsOf, UsesOf, Wide};
@@ -37,7 +37,7 @@ pub fn gather(words: &[u16], places: &[u16], table: &mut [u64], uses: &mut [u64]
 // changes nothing.
 fn mention(words: &[u16], places: &[u16], p: usize, table: &mut [u64]) -> u64
     requires ready { Ready words.now places.now }
-    requires p_bound { p < ruleCount words.now }
+    requires p_bound { p < rule_count words.now }
     requires wide { Wide words.now table.old }
     ensures { Mentioned words.now p 0 table.old table.new result }
 {

@@ -15,8 +15,8 @@ abbrev pub started : Parser
 started = record { place = 0; height = 2; moves = 0; records = 0; listed = 0; window = 0 }
 
 -- Match: "one pop, next token".
-abbrev pub matchedBy : Parser → Parser
-matchedBy p =
+abbrev pub matched_by : Parser → Parser
+matched_by p =
     record {
       place = p.place + 1;
       height = p.height - 1;
@@ -27,8 +27,8 @@ matchedBy p =
     }
 
 -- Expand: "one pop, the right side is pushed, the rule number is listed".
-abbrev pub expandedBy : ℕ → ℕ → Parser → Parser
-expandedBy size window p =
+abbrev pub expanded_by : ℕ → ℕ → Parser → Parser
+expanded_by size window p =
     record {
       place = p.place;
       height = p.height - 1 + size;
@@ -39,8 +39,8 @@ expandedBy size window p =
     }
 
 -- Drop: "one pop, nothing listed".
-abbrev pub droppedBy : Parser → Parser
-droppedBy p =
+abbrev pub dropped_by : Parser → Parser
+dropped_by p =
     record {
       place = p.place;
       height = p.height - 1;
@@ -51,8 +51,8 @@ droppedBy p =
     }
 
 -- A delete passes its token.
-abbrev pub deletedBy : Parser → Parser
-deletedBy p =
+abbrev pub deleted_by : Parser → Parser
+deleted_by p =
     record {
       place = p.place + 1;
       height = p.height;
@@ -63,8 +63,8 @@ deletedBy p =
     }
 
 -- An insert pops its symbol.
-abbrev pub insertedBy : Parser → Parser
-insertedBy p =
+abbrev pub inserted_by : Parser → Parser
+inserted_by p =
     record {
       place = p.place;
       height = p.height - 1;

@@ -6,12 +6,12 @@ use Rattle.moves.specs.declared.Pick.{Pick}
 use Rattle.moves.specs.declared.Pick.TheVariants.{Match, Expand, Drop, Error}
 
 -- Token t is in FIRST of the symbol: a terminal's is itself, a nonterminal's stands in the table.
-unfoldable pub beginsBy : List ℕ → ℕ → ℕ → Bool
-beginsBy masks x t = cond (ltb x 64) (eqb x t) (member (get_or masks (x - 64) 0) t)
+unfoldable pub begins_by : List ℕ → ℕ → ℕ → Bool
+begins_by masks x t = cond (ltb x 64) (eqb x t) (member (get_or masks (x - 64) 0) t)
 
 -- The symbol can be empty: no terminal can.
-unfoldable pub emptyBy : List ℕ → ℕ → Bool
-emptyBy masks x = cond (ltb x 64) false (member (get_or masks 64 0) (x - 64))
+unfoldable pub empty_by : List ℕ → ℕ → Bool
+empty_by masks x = cond (ltb x 64) false (member (get_or masks 64 0) (x - 64))
 
 -- "Top equal to t": match. "Top a nonterminal with t in its FIRST": expand. "Any other top can be empty": drop. "Otherwise t is in
 -- error".
@@ -21,25 +21,25 @@ pick_by x begins empty = cond (ltb x 64) (cond begins Match Error) (cond begins 
 -- ---- What is picked where, and what a pick tells
 
 module _ (x : ℕ) (begins empty : Bool) where
-  pub picks-match : x < 64 → begins ≡ true → Match ≡ pick_by x begins empty
+  pub picks_match : x < 64 → begins ≡ true → Match ≡ pick_by x begins empty
   unfolding pick_by
-  picks-match l b = rw (lt-ltb x 64 l, b)
+  picks_match l b = rw (lt-ltb x 64 l, b)
 
-  pub picks-none : x < 64 → begins ≡ false → Error ≡ pick_by x begins empty
+  pub picks_none : x < 64 → begins ≡ false → Error ≡ pick_by x begins empty
   unfolding pick_by
-  picks-none l b = rw (lt-ltb x 64 l, b)
+  picks_none l b = rw (lt-ltb x 64 l, b)
 
-  pub picks-expand : 64 ≤ x → begins ≡ true → Expand ≡ pick_by x begins empty
+  pub picks_expand : 64 ≤ x → begins ≡ true → Expand ≡ pick_by x begins empty
   unfolding pick_by
-  picks-expand l b = rw (le-ltb x 64 l, b)
+  picks_expand l b = rw (le-ltb x 64 l, b)
 
-  pub picks-drop : 64 ≤ x → begins ≡ false → empty ≡ true → Drop ≡ pick_by x begins empty
+  pub picks_drop : 64 ≤ x → begins ≡ false → empty ≡ true → Drop ≡ pick_by x begins empty
   unfolding pick_by
-  picks-drop l b e = rw (le-ltb x 64 l, b, e)
+  picks_drop l b e = rw (le-ltb x 64 l, b, e)
 
-  pub picks-error : 64 ≤ x → begins ≡ false → empty ≡ false → Error ≡ pick_by x begins empty
+  pub picks_error : 64 ≤ x → begins ≡ false → empty ≡ false → Error ≡ pick_by x begins empty
   unfolding pick_by
-  picks-error l b e = rw (le-ltb x 64 l, b, e)
+  picks_error l b e = rw (le-ltb x 64 l, b, e)
 
 -- The pick tells the tests.
 unfoldable pub Told : ℕ → Bool → Bool → Pick → Type 0
@@ -60,12 +60,12 @@ told x begins empty = go (ltb x 64) refl begins refl empty refl
     go false q false r true s = (r, s)
     go false q false r false s = (r, inl s)
 
-pub terminal-not-empty : (masks : List ℕ) (x : ℕ) → x < 64 → emptyBy masks x ≡ false
-unfolding emptyBy
-terminal-not-empty masks x l = rw (lt-ltb x 64 l)
+pub terminal_not_empty : (masks : List ℕ) (x : ℕ) → x < 64 → empty_by masks x ≡ false
+unfolding empty_by
+terminal_not_empty masks x l = rw (lt-ltb x 64 l)
 
-pub le-or-lt : (m n : ℕ) → (m ≤ n) ⊎ (n < m)
-le-or-lt m n = go (leb m n) refl
+pub le_or_lt : (m n : ℕ) → (m ≤ n) ⊎ (n < m)
+le_or_lt m n = go (leb m n) refl
   where
     go : (b : Bool) → leb m n ≡ b → (m ≤ n) ⊎ (n < m)
     go true e = inl (leb-true m n e)

@@ -5,9 +5,9 @@ use Rattle.std.proofs.Math.Path.{subst}
 use Rattle.std.proofs.Math.Bool.{true, false}
 use Rattle.std.proofs.Math.Logic.{inl, inr, ⊎_elim}
 use Rattle.moves.specs.Pile.{pile}
-use Rattle.moves.specs.States.{CanCount, droppedBy}
+use Rattle.moves.specs.States.{CanCount, dropped_by}
 use Rattle.moves.specs.Windows.{Shows, CanSee, seen_below}
-use Rattle.moves.specs.Tests.{beginsBy, emptyBy, Told, terminal-not-empty, le-or-lt}
+use Rattle.moves.specs.Tests.{begins_by, empty_by, Told, terminal_not_empty, le_or_lt}
 use Rattle.moves.specs.declared.Pick.TheVariants.{Match, Expand, Drop, Error}
 use Rattle.moves.specs.declared.Parser.{Parser}
 use Rattle.moves.specs.declared.Way.{Way}
@@ -26,8 +26,8 @@ pub record CanDescend (masks stack : List ℕ) (p : Parser) (t : ℕ) : Type 0 w
 -- The cells from e up to h can be empty, and the token is in FIRST of none.
 pub record Passed (masks stack : List ℕ) (t h e : ℕ) : Type 0 where
   pub within : e ≤ h
-  pub outside : (i : ℕ) → e ≤ i → i < h → beginsBy masks (get_or stack i 0) t ≡ false
-  pub empty : (i : ℕ) → e ≤ i → i < h → emptyBy masks (get_or stack i 0) ≡ true
+  pub outside : (i : ℕ) → e ≤ i → i < h → begins_by masks (get_or stack i 0) t ≡ false
+  pub empty : (i : ℕ) → e ≤ i → i < h → empty_by masks (get_or stack i 0) ≡ true
 
 -- From p to d there are drops only.
 pub record Dropped (p d : Parser) : Type 0 where
@@ -41,14 +41,14 @@ pub record Fitting (masks stack : List ℕ) (t : ℕ) (p d : Parser) : Type 0 wh
   pub passed : Passed masks stack t p.height d.height
   pub dropped : Dropped p d
   pub some : 0 < d.height
-  pub begins : beginsBy masks (get_or stack (d.height - 1) 0) t ≡ true
+  pub begins : begins_by masks (get_or stack (d.height - 1) 0) t ≡ true
 
 -- The token is in FIRST of nothing that it can come to.
 pub record Sticking (masks stack : List ℕ) (t : ℕ) (p : Parser) : Type 0 where
   pub height : ℕ
   pub passed : Passed masks stack t p.height height
   pub stops : (height ≡ 0)
-      ⊎ ((beginsBy masks (get_or stack (height - 1) 0) t ≡ false) × (emptyBy masks (get_or stack (height - 1) 0) ≡ false))
+      ⊎ ((begins_by masks (get_or stack (height - 1) 0) t ≡ false) × (empty_by masks (get_or stack (height - 1) 0) ≡ false))
 
 -- With the state behind the drops comes the top that grows.
 unfoldable pub WayOf : List ℕ → List ℕ → ℕ → Parser → Way → Type 0
@@ -65,24 +65,24 @@ module _ (masks stack : List ℕ) (t : ℕ) where
   passed_none h =
       record { within = omega arith; outside = λ i l k. absurd (omega arith); empty = λ i l k. absurd (omega arith) }
 
-  pub passed-more : (h e : ℕ) → 0 < e → beginsBy masks (get_or stack (e - 1) 0) t ≡ false → emptyBy masks (get_or stack (e - 1) 0) ≡ true
+  pub passed_more : (h e : ℕ) → 0 < e → begins_by masks (get_or stack (e - 1) 0) t ≡ false → empty_by masks (get_or stack (e - 1) 0) ≡ true
       → Passed masks stack t h e → Passed masks stack t h (e - 1)
-  passed-more h e l b n p =
+  passed_more h e l b n p =
       record {
         within = omega (arith, p.within);
-        outside = λ i k m. at (λ x. beginsBy masks x t ≡ false) i k b (λ j. p.outside i j m);
-        empty = λ i k m. at (λ x. emptyBy masks x ≡ true) i k n (λ j. p.empty i j m);
+        outside = λ i k m. at (λ x. begins_by masks x t ≡ false) i k b (λ j. p.outside i j m);
+        empty = λ i k m. at (λ x. empty_by masks x ≡ true) i k n (λ j. p.empty i j m);
       }
     where
       at : (P : ℕ → Type 0) (i : ℕ) → e - 1 ≤ i → P (get_or stack (e - 1) 0) → (e ≤ i → P (get_or stack i 0)) → P (get_or stack i 0)
       at P i k here above =
-          ⊎_elim (λ j. above j) (λ j. let q : e - 1 ≡ i = omega arith in subst (λ m. P (get_or stack m 0)) q here) (le-or-lt e i)
+          ⊎_elim (λ j. above j) (λ j. let q : e - 1 ≡ i = omega arith in subst (λ m. P (get_or stack m 0)) q here) (le_or_lt e i)
 
-pub dropped-none : (p : Parser) → Dropped p p
-dropped-none p = record { place = refl; moves = refl; records = refl; listed = refl }
+pub dropped_none : (p : Parser) → Dropped p p
+dropped_none p = record { place = refl; moves = refl; records = refl; listed = refl }
 
-pub dropped-more : (p d : Parser) → 0 < d.height → Dropped p d → Dropped p (droppedBy d)
-dropped-more p d l h = record { place = h.place; moves = omega (arith, h.moves); records = h.records; listed = h.listed }
+pub dropped_more : (p d : Parser) → 0 < d.height → Dropped p d → Dropped p (dropped_by d)
+dropped_more p d l h = record { place = h.place; moves = omega (arith, h.moves); records = h.records; listed = h.listed }
 
 -- The invariant of going down.
 pub record Going (masks stack : List ℕ) (t : ℕ) (p d : Parser) : Type 0 where
@@ -90,14 +90,14 @@ pub record Going (masks stack : List ℕ) (t : ℕ) (p d : Parser) : Type 0 wher
   pub dropped : Dropped p d
   pub shows : Shows d.window (pile stack d.height)
 
-pub going-sees : {masks stack : List ℕ} {t : ℕ} {p d : Parser} → p.height ≤ length stack → 0 < d.height
+pub going_sees : {masks stack : List ℕ} {t : ℕ} {p d : Parser} → p.height ≤ length stack → 0 < d.height
     → Going masks stack t p d → CanSee stack d.height d.window
-going-sees l k inv = record { some = k; cells = omega (arith, inv.passed.within); shows = inv.shows }
+going_sees l k inv = record { some = k; cells = omega (arith, inv.passed.within); shows = inv.shows }
 
 -- There is room to count the next drop.
-pub going-counts : {masks stack : List ℕ} {t : ℕ} {p d : Parser} → CanDescend masks stack p t → 0 < d.height
+pub going_counts : {masks stack : List ℕ} {t : ℕ} {p d : Parser} → CanDescend masks stack p t → 0 < d.height
     → Going masks stack t p d → CanCount d × (1 ≤ d.height)
-going-counts can l inv =
+going_counts can l inv =
     let n = can.count in
     let w = inv.dropped in (
       record {
@@ -111,54 +111,54 @@ going-counts can l inv =
     )
 
 module _ (masks stack : List ℕ) (t : ℕ) (p : Parser) where
-  pub going-none : Shows p.window (pile stack p.height) → Going masks stack t p p
-  going-none s = record { passed = passed_none masks stack t p.height; dropped = dropped-none p; shows = s }
+  pub going_none : Shows p.window (pile stack p.height) → Going masks stack t p p
+  going_none s = record { passed = passed_none masks stack t p.height; dropped = dropped_none p; shows = s }
 
   -- What was tested of the top was tested of the cell.
   module _ (d : Parser) (inv : Going masks stack t p d) (x : ℕ) (top : x ≡ get_or stack (d.height - 1) 0) (b e : Bool)
-      (begins : b ≡ beginsBy masks x t) where
-    cell-begins : (c : Bool) → b ≡ c → beginsBy masks (get_or stack (d.height - 1) 0) t ≡ c
-    cell-begins c f = ap (λ y. beginsBy masks y t) (sym top) ∙ sym begins ∙ f
+      (begins : b ≡ begins_by masks x t) where
+    cell_begins : (c : Bool) → b ≡ c → begins_by masks (get_or stack (d.height - 1) 0) t ≡ c
+    cell_begins c f = ap (λ y. begins_by masks y t) (sym top) ∙ sym begins ∙ f
 
-    cell-empty : e ≡ emptyBy masks x → (c : Bool) → e ≡ c → emptyBy masks (get_or stack (d.height - 1) 0) ≡ c
-    cell-empty g c f = ap (λ y. emptyBy masks y) (sym top) ∙ sym g ∙ f
+    cell_empty : e ≡ empty_by masks x → (c : Bool) → e ≡ c → empty_by masks (get_or stack (d.height - 1) 0) ≡ c
+    cell_empty g c f = ap (λ y. empty_by masks y) (sym top) ∙ sym g ∙ f
 
-    pub going_more : (q : Parser) → q ≡ droppedBy d → 0 < d.height → e ≡ emptyBy masks x → Told x b e Drop → Going masks stack t p q
+    pub going_more : (q : Parser) → q ≡ dropped_by d → 0 < d.height → e ≡ empty_by masks x → Told x b e Drop → Going masks stack t p q
     unfolding Told
     going_more q r l g told =
         subst (λ y. Going masks stack t p y) (sym r)
         (record {
-          passed = passed-more masks stack t p.height d.height l (cell-begins false told.0) (cell-empty g true told.1)
+          passed = passed_more masks stack t p.height d.height l (cell_begins false told.0) (cell_empty g true told.1)
               inv.passed;
-          dropped = dropped-more p d l inv.dropped;
+          dropped = dropped_more p d l inv.dropped;
           shows = seen_below stack d.height d.window l inv.shows;
         })
 
     fitting : 0 < d.height → b ≡ true → Fitting masks stack t p d
-    fitting l f = record { passed = inv.passed; dropped = inv.dropped; some = l; begins = cell-begins true f }
+    fitting l f = record { passed = inv.passed; dropped = inv.dropped; some = l; begins = cell_begins true f }
 
-    pub ends-fits : 0 < d.height → Told x b e Match → WayOf masks stack t p (Fits d)
+    pub ends_fits : 0 < d.height → Told x b e Match → WayOf masks stack t p (Fits d)
     unfolding Told WayOf
-    ends-fits l told = (fitting l told.0, subst (λ y. y < 64) top told.1, inv.shows)
+    ends_fits l told = (fitting l told.0, subst (λ y. y < 64) top told.1, inv.shows)
 
-    pub ends-grows : 0 < d.height → Told x b e Expand → WayOf masks stack t p (Grows d x)
+    pub ends_grows : 0 < d.height → Told x b e Expand → WayOf masks stack t p (Grows d x)
     unfolding Told WayOf
-    ends-grows l told = (fitting l told.0, subst (λ y. 64 ≤ y) top told.1, top)
+    ends_grows l told = (fitting l told.0, subst (λ y. 64 ≤ y) top told.1, top)
 
-    pub ends_stuck : e ≡ emptyBy masks x → Told x b e Error → WayOf masks stack t p Stuck
+    pub ends_stuck : e ≡ empty_by masks x → Told x b e Error → WayOf masks stack t p Stuck
     unfolding Told WayOf
     ends_stuck g told =
         record {
           height = d.height;
           passed = inv.passed;
           stops = inr (
-            cell-begins false told.0,
+            cell_begins false told.0,
             ⊎_elim
-                (λ n. cell-empty g false n)
-                (λ l. terminal-not-empty masks (get_or stack (d.height - 1) 0) (subst (λ y. y < 64) top l)) told.1,
+                (λ n. cell_empty g false n)
+                (λ l. terminal_not_empty masks (get_or stack (d.height - 1) 0) (subst (λ y. y < 64) top l)) told.1,
           );
         }
 
-  pub ends-bottom : (d : Parser) → d.height ≤ 0 → Going masks stack t p d → WayOf masks stack t p Stuck
+  pub ends_bottom : (d : Parser) → d.height ≤ 0 → Going masks stack t p d → WayOf masks stack t p Stuck
   unfolding WayOf
-  ends-bottom d l inv = record { height = d.height; passed = inv.passed; stops = inl (omega arith) }
+  ends_bottom d l inv = record { height = d.height; passed = inv.passed; stops = inl (omega arith) }

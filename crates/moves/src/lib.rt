@@ -3,15 +3,15 @@
 ghost use Rattle.std.specs.Prelude.{◌≡◌, Bool, ◌+◌, ◌-◌, ◌*◌, ◌/◌, ◌%◌, ◌≤◌, ◌<◌, ◌^◌, length, get_or};
 ghost use Rattle.moves.specs.States.{
   CanCount,
-  deletedBy,
-  droppedBy,
-  expandedBy,
-  insertedBy,
-  matchedBy,
+  deleted_by,
+  dropped_by,
+  expanded_by,
+  inserted_by,
+  matched_by,
   started,
   windowless,
 };
-ghost use Rattle.moves.specs.Tests.{beginsBy, emptyBy, pick_by};
+ghost use Rattle.moves.specs.Tests.{begins_by, empty_by, pick_by};
 ghost use Rattle.moves.specs.Windows.{CanSee};
 ghost use Rattle.moves.specs.Ways.{CanDescend, WayOf};
 ghost use Rattle.moves.specs.Push.{CanPush, Pushed};
@@ -47,7 +47,7 @@ impl Parser {
     // Match: "one pop, next token".
     pub fn matched(mut self) -> Self
         requires { CanCount self × (1 ≤ self.height) }
-        ensures { result ≡ matchedBy self }
+        ensures { result ≡ matched_by self }
     {
         self.place += 1;
         self.height -= 1;
@@ -59,7 +59,7 @@ impl Parser {
     // Expand: "one pop, the right side is pushed, the rule number is listed". `size` symbols are pushed, which the window shows.
     pub fn expanded(mut self, size: usize, window: u64) -> Self
         requires { CanCount self × (1 ≤ self.height) × (size ≤ 256) }
-        ensures { result ≡ expandedBy size window self }
+        ensures { result ≡ expanded_by size window self }
     {
         self.height = self.height - 1 + size;
         self.listed += 1;
@@ -71,7 +71,7 @@ impl Parser {
     // Drop: "one pop, nothing listed".
     pub fn dropped(mut self) -> Self
         requires { CanCount self × (1 ≤ self.height) }
-        ensures { result ≡ droppedBy self }
+        ensures { result ≡ dropped_by self }
     {
         self.height -= 1;
         self.moves += 1;
@@ -82,7 +82,7 @@ impl Parser {
     // A delete passes its token.
     pub fn deleted(mut self) -> Self
         requires { CanCount self }
-        ensures { result ≡ deletedBy self }
+        ensures { result ≡ deleted_by self }
     {
         self.place += 1;
         self.records += 1;
@@ -93,7 +93,7 @@ impl Parser {
     // An insert pops its symbol.
     pub fn inserted(mut self) -> Self
         requires { CanCount self × (1 ≤ self.height) }
-        ensures { result ≡ insertedBy self }
+        ensures { result ≡ inserted_by self }
     {
         self.height -= 1;
         self.records += 1;
@@ -137,7 +137,7 @@ fn top_of(stack: &[u16], height: usize, window: u64) -> u16
 // Token t is in FIRST of the symbol.
 pub fn begins(masks: &[u64], symbol: u16, t: u16) -> bool
     requires { (symbol < 128) × (t < 64) × (65 ≤ length masks.now) }
-    ensures { result ≡ beginsBy masks.now symbol t }
+    ensures { result ≡ begins_by masks.now symbol t }
 {
     if symbol < 64 {
         symbol == t
@@ -150,7 +150,7 @@ pub fn begins(masks: &[u64], symbol: u16, t: u16) -> bool
 // The symbol can be empty.
 pub fn empty(masks: &[u64], symbol: u16) -> bool
     requires { (symbol < 128) × (65 ≤ length masks.now) }
-    ensures { result ≡ emptyBy masks.now symbol }
+    ensures { result ≡ empty_by masks.now symbol }
 {
     if symbol < 64 {
         false

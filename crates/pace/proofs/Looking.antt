@@ -2,17 +2,17 @@
 use Rattle.std.proofs.Common.{◌≡◌, ℕ, ◌+◌, ◌<◌, ◌≤◌, Bool, true, false, ltb, List, sym, ◌∙◌, ⊎_elim, true≢false, arith, ltb-false, ltb-true}
 use mathlib.Core.Bool.{false≢true}
 use Rattle.pace.specs.Order.{below_or_not, below_next}
-use Rattle.pace.specs.Watch.{Cursor, DeleteAt, Stands, placeAt, kind_at}
+use Rattle.pace.specs.Watch.{Cursor, DeleteAt, Stands, place_at, kind_at}
 
 pub record Looked (words : List ℕ) (records at place behind : ℕ) (deleted : Bool) : Type 0 where
   pub onward : at ≤ behind
   pub within : behind ≤ records
-  pub same : (i : ℕ) → at ≤ i → i < behind → placeAt words i ≡ place
+  pub same : (i : ℕ) → at ≤ i → i < behind → place_at words i ≡ place
   pub some : deleted ≡ true → DeleteAt words records place
   pub none : deleted ≡ false → (i : ℕ) → at ≤ i → i < behind → kind_at words i ≡ 1 → ⊥
 
-pub looked-none : {words : List ℕ} {records at place : ℕ} → at ≤ records → Looked words records at place at false
-looked-none l =
+pub looked_none : {words : List ℕ} {records at place : ℕ} → at ≤ records → Looked words records at place at false
+looked_none l =
     record {
       onward = omega arith;
       within = l;
@@ -22,29 +22,29 @@ looked-none l =
     }
 
 module _ {words : List ℕ} {records at place behind : ℕ} {deleted : Bool} (looked : Looked words records at place behind deleted)
-    (there : (behind < records) × (placeAt words behind ≡ place)) where
-  next-same : (i : ℕ) → at ≤ i → i < behind + 1 → placeAt words i ≡ place
-  next-same i l h = below_next (λ j. placeAt words j ≡ place) i behind h (λ k. looked.same i l k) there.1
+    (there : (behind < records) × (place_at words behind ≡ place)) where
+  next_same : (i : ℕ) → at ≤ i → i < behind + 1 → place_at words i ≡ place
+  next_same i l h = below_next (λ j. place_at words j ≡ place) i behind h (λ k. looked.same i l k) there.1
 
   -- One record more: a delete,
-  pub looked-delete : {found : Bool} → found ≡ true → kind_at words behind ≡ 1 → Looked words records at place (behind + 1) found
-  looked-delete f e =
+  pub looked_delete : {found : Bool} → found ≡ true → kind_at words behind ≡ 1 → Looked words records at place (behind + 1) found
+  looked_delete f e =
       record {
         onward = omega (arith, looked.onward);
         within = omega (arith, there.0);
-        same = next-same;
+        same = next_same;
         some = λ t. (behind, there.0, there.1, e);
         none = λ t. absurd (true≢false (sym f ∙ t));
       }
 
   -- or none.
-  pub looked-other : {found : Bool} → found ≡ deleted → (kind_at words behind ≡ 1 → ⊥)
+  pub looked_other : {found : Bool} → found ≡ deleted → (kind_at words behind ≡ 1 → ⊥)
       → Looked words records at place (behind + 1) found
-  looked-other f n =
+  looked_other f n =
       record {
         onward = omega (arith, looked.onward);
         within = omega (arith, there.0);
-        same = next-same;
+        same = next_same;
         some = λ t. looked.some (sym f ∙ t);
         none = λ t i l h. below_next (λ j. kind_at words j ≡ 1 → ⊥) i behind h (λ k. looked.none (sym f ∙ t) i l k) n;
       }
@@ -52,19 +52,19 @@ module _ {words : List ℕ} {records at place behind : ℕ} {deleted : Bool} (lo
 -- The records that are left have later places.
 module _ {words : List ℕ} {records at place behind : ℕ} {deleted : Bool} (cursor : Cursor words records at place)
     (looked : Looked words records at place behind deleted)
-    (gone : (behind < records) × (placeAt words behind ≡ place) → ⊥) where
-  later : (i : ℕ) → behind ≤ i → i < records → place + 1 ≤ placeAt words i
+    (gone : (behind < records) × (place_at words behind ≡ place) → ⊥) where
+  later : (i : ℕ) → behind ≤ i → i < records → place + 1 ≤ place_at words i
   later i l h =
       let b = cursor.onward behind looked.onward (omega arith) in
       let r = cursor.rising.ordered behind i l h in
       ⊎_elim
       (λ k. omega arith)
       (λ k.
-      let e : placeAt words behind ≡ place = omega arith in
+      let e : place_at words behind ≡ place = omega arith in
       absurd (gone (omega arith, e)))
-      (below_or_not place (placeAt words behind))
+      (below_or_not place (place_at words behind))
 
-  earlier : (i : ℕ) → i < behind → placeAt words i < place + 1
+  earlier : (i : ℕ) → i < behind → place_at words i < place + 1
   earlier i l =
       ⊎_elim
       (λ h. let b = cursor.before i h in omega arith)
@@ -72,7 +72,7 @@ module _ {words : List ℕ} {records at place behind : ℕ} {deleted : Bool} (cu
       (below_or_not i at)
 
   -- A record of the place is among those looked at.
-  among : (i : ℕ) → i < records → placeAt words i ≡ place → (at ≤ i) × (i < behind)
+  among : (i : ℕ) → i < records → place_at words i ≡ place → (at ≤ i) × (i < behind)
   among i l e =
       ⊎_elim
       (λ h. let b = cursor.before i h in absurd (omega arith))
@@ -83,8 +83,8 @@ module _ {words : List ℕ} {records at place behind : ℕ} {deleted : Bool} (cu
       (below_or_not i behind))
       (below_or_not i at)
 
-  pub looked-all : Stands words records place (record { edited = ltb at behind; deleted = deleted; behind = behind })
-  looked-all =
+  pub looked_all : Stands words records place (record { edited = ltb at behind; deleted = deleted; behind = behind })
+  looked_all =
       record {
         edited =
             record {

@@ -3,22 +3,22 @@ use Rattle.std.specs.Prelude.{◌≡◌, ℕ, ◌+◌, ◌≤◌, Bool, true, fa
 use Rattle.std.proofs.lemmas.Bool.{false≢true}
 use Rattle.std.proofs.Common.{arith}
 use Rattle.grammar.specs.Pace.{wrapped}
-use Rattle.grammar.specs.theory.FewCycles.{time-most}
-use Rattle.pace.specs.Watch.{Few, Small, spoiledBy, closedBy, openedBy, stepBy}
+use Rattle.grammar.specs.Theory.FewCycles.{time_most}
+use Rattle.pace.specs.Watch.{Few, Small, spoiled_by, closed_by, opened_by, step_by}
 use Rattle.pace.specs.declared.Watch.{Watch}
 
-few-spoiled : {b : ℕ} (edited : Bool) (w : Watch) → Few b w → Few b (cond edited (spoiledBy w) w)
-unfolding spoiledBy
-few-spoiled true w f = record { count = f.count; sum = f.sum; started = λ e. absurd (false≢true e) }
-few-spoiled false w f = f
+few_spoiled : {b : ℕ} (edited : Bool) (w : Watch) → Few b w → Few b (cond edited (spoiled_by w) w)
+unfolding spoiled_by
+few_spoiled true w f = record { count = f.count; sum = f.sum; started = λ e. absurd (false≢true e) }
+few_spoiled false w f = f
 
 -- One place more closes one cycle at most.
-few-more : {b : ℕ} (w : Watch) → Few b w → Few (b + 1) w
-few-more w f = record { count = omega (arith, f.count); sum = f.sum; started = λ e. omega arith }
+few_more : {b : ℕ} (w : Watch) → Few b w → Few (b + 1) w
+few_more w f = record { count = omega (arith, f.count); sum = f.sum; started = λ e. omega arith }
 
-few-close : {b : ℕ} (tick : ℕ) (w : Watch) → Few b w → Few (b + 1) (closedBy tick w)
-unfolding closedBy
-few-close {b} tick w f = go w.begun refl
+few_close : {b : ℕ} (tick : ℕ) (w : Watch) → Few b w → Few (b + 1) (closed_by tick w)
+unfolding closed_by
+few_close {b} tick w f = go w.begun refl
   where
     go : (q : Bool) → w.begun ≡ q
         → Few (b + 1)
@@ -29,31 +29,31 @@ few-close {b} tick w f = go w.begun refl
         let some = f.started e in
         record {
           count = omega (arith, f.count);
-          sum = omega (arith, f.sum, time-most w.since tick);
+          sum = omega (arith, f.sum, time_most w.since tick);
           started = λ e. absurd (false≢true e);
         }
-    go false e = few-more w f
+    go false e = few_more w f
 
-few-closed : {b : ℕ} (closes : Bool) (tick : ℕ) (w : Watch) → Few b w → Few (b + 1) (cond closes (closedBy tick w) w)
-few-closed true tick w f = few-close tick w f
-few-closed false tick w f = few-more w f
+few_closed : {b : ℕ} (closes : Bool) (tick : ℕ) (w : Watch) → Few b w → Few (b + 1) (cond closes (closed_by tick w) w)
+few_closed true tick w f = few_close tick w f
+few_closed false tick w f = few_more w f
 
-few-opened : (b : ℕ) (opens : Bool) (tick : ℕ) (w : Watch) → Few (b + 1) w → Few (b + 1) (cond opens (openedBy tick w) w)
-unfolding openedBy
-few-opened b true tick w f = record { count = f.count; sum = f.sum; started = λ e. omega arith }
-few-opened b false tick w f = f
+few_opened : (b : ℕ) (opens : Bool) (tick : ℕ) (w : Watch) → Few (b + 1) w → Few (b + 1) (cond opens (opened_by tick w) w)
+unfolding opened_by
+few_opened b true tick w f = record { count = f.count; sum = f.sum; started = λ e. omega arith }
+few_opened b false tick w f = f
 
-pub few-next : {b : ℕ} (edited closes opens : Bool) (tick : ℕ) (w : Watch) → Few b w
-    → Few (b + 1) (stepBy edited closes opens tick w)
-unfolding stepBy
-few-next {b} edited closes opens tick w f =
-    let spoiled = cond edited (spoiledBy w) w in
-    let closed = cond closes (closedBy tick spoiled) spoiled in
-    few-opened b opens tick closed (few-closed closes tick spoiled (few-spoiled edited w f))
+pub few_next : {b : ℕ} (edited closes opens : Bool) (tick : ℕ) (w : Watch) → Few b w
+    → Few (b + 1) (step_by edited closes opens tick w)
+unfolding step_by
+few_next {b} edited closes opens tick w f =
+    let spoiled = cond edited (spoiled_by w) w in
+    let closed = cond closes (closed_by tick spoiled) spoiled in
+    few_opened b opens tick closed (few_closed closes tick spoiled (few_spoiled edited w f))
 
-pub few-start : (since : ℕ) → Few 0 (record { begun = false; since = since; count = 0; sum = 0 })
-few-start since = record { count = omega arith; sum = omega arith; started = λ e. absurd (false≢true e) }
+pub few_start : (since : ℕ) → Few 0 (record { begun = false; since = since; count = 0; sum = 0 })
+few_start since = record { count = omega arith; sum = omega arith; started = λ e. absurd (false≢true e) }
 
 -- A log has at most 4,096 places.
-pub few-small : {b : ℕ} {w : Watch} → b ≤ 4096 → Few b w → Small w
-few-small l f = record { count = omega (arith, f.count); sum = f.sum }
+pub few_small : {b : ℕ} {w : Watch} → b ≤ 4096 → Few b w → Small w
+few_small l f = record { count = omega (arith, f.count); sum = f.sum }

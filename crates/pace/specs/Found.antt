@@ -4,7 +4,7 @@ use Rattle.std.proofs.Common.{sym, ap, subst, inl, inr, ⊎_elim, arith, length-
 use mathlib.Core.List.Memᴰ
 use mathlib.Core.List.{Memᴰ}
 use Rattle.grammar.specs.Moves.{Move}
-use Rattle.grammar.specs.Pace.{Span, Clean, Ascending, cycleMs, totalMs}
+use Rattle.grammar.specs.Pace.{Span, Clean, Ascending, cycle_ms, total_ms}
 use Rattle.pace.specs.Order.{below_or_not}
 
 -- The clean cycles that close before b, their number and the sum of their times.
@@ -15,25 +15,25 @@ pub record Found (o c m : ℕ) (ticks : List ℕ) (ms : List Move) (b count sum 
   pub only : (s : Span) → Memᴰ s cycles → Clean o c m ms s
   pub before : (s : Span) → Memᴰ s cycles → s.closed < b
   pub counts : count ≡ length cycles
-  pub sums : sum ≡ totalMs ticks cycles
+  pub sums : sum ≡ total_ms ticks cycles
 
 -- ---- One span more
 
-ascending-more : (ss : List Span) (u : Span) → Ascending ss → ((s : Span) → Memᴰ s ss → s.closed < u.closed)
+ascending_more : (ss : List Span) (u : Span) → Ascending ss → ((s : Span) → Memᴰ s ss → s.closed < u.closed)
     → Ascending (ss ++ (u ∷ []))
-ascending-more [] u a l = Ascending.only
-ascending-more (s ∷ []) u a l = Ascending.also (l s (Memᴰ.head refl)) Ascending.only
-ascending-more (s ∷ v ∷ ss) u (Ascending.also h a) l =
-    Ascending.also h (ascending-more (v ∷ ss) u a (λ z m. l z (Memᴰ.tail m)))
+ascending_more [] u a l = Ascending.only
+ascending_more (s ∷ []) u a l = Ascending.also (l s (Memᴰ.head refl)) Ascending.only
+ascending_more (s ∷ v ∷ ss) u (Ascending.also h a) l =
+    Ascending.also h (ascending_more (v ∷ ss) u a (λ z m. l z (Memᴰ.tail m)))
 
-total-more : (ticks : List ℕ) (ss : List Span) (u : Span)
-    → totalMs ticks (ss ++ (u ∷ [])) ≡ totalMs ticks ss + cycleMs ticks u
-unfolding totalMs
-total-more ticks [] u = omega arith
-total-more ticks (s ∷ ss) u = omega (arith, total-more ticks ss u)
+total_more : (ticks : List ℕ) (ss : List Span) (u : Span)
+    → total_ms ticks (ss ++ (u ∷ [])) ≡ total_ms ticks ss + cycle_ms ticks u
+unfolding total_ms
+total_more ticks [] u = omega arith
+total_more ticks (s ∷ ss) u = omega (arith, total_more ticks ss u)
 
-last-member : {s u : Span} (ss : List Span) → Memᴰ s (ss ++ (u ∷ [])) → Memᴰ s ss ⊎ (s ≡ u)
-last-member ss m =
+last_member : {s u : Span} (ss : List Span) → Memᴰ s (ss ++ (u ∷ [])) → Memᴰ s ss ⊎ (s ≡ u)
+last_member ss m =
     ⊎_elim
     inl
     (λ k. ⊎_elim inr (λ n. absurd (Memᴰ.not-nil n)) (Memᴰ.cases_cons k))
@@ -43,9 +43,9 @@ last-member ss m =
 
 module _ (o c m : ℕ) (ticks : List ℕ) (ms : List Move) where
   -- Before the first place there is none.
-  pub found-start : Found o c m ticks ms 0 0 0
-  unfolding totalMs
-  found-start =
+  pub found_start : Found o c m ticks ms 0 0 0
+  unfolding total_ms
+  found_start =
       record {
         cycles = [];
         ascending = Ascending.nothing;
@@ -75,13 +75,13 @@ module _ (o c m : ℕ) (ticks : List ℕ) (ms : List Move) where
       }
 
   -- The clean cycle that closes at b is found.
-  pub found-one : (b : ℕ) {count sum : ℕ} (u : Span) → u.closed ≡ b → Clean o c m ms u
+  pub found_one : (b : ℕ) {count sum : ℕ} (u : Span) → u.closed ≡ b → Clean o c m ms u
       → ((s : Span) → Clean o c m ms s → s.closed ≡ b → s ≡ u) → Found o c m ticks ms b count sum
-      → Found o c m ticks ms (b + 1) (count + 1) (sum + cycleMs ticks u)
-  found-one b u e k one f =
+      → Found o c m ticks ms (b + 1) (count + 1) (sum + cycle_ms ticks u)
+  found_one b u e k one f =
       record {
         cycles = f.cycles ++ (u ∷ []);
-        ascending = ascending-more f.cycles u f.ascending (λ s m. let l = f.before s m in omega arith);
+        ascending = ascending_more f.cycles u f.ascending (λ s m. let l = f.before s m in omega arith);
         every = λ s y l.
             ⊎_elim
             (λ h. Memᴰ.append_left (u ∷ []) (f.every s y h))
@@ -91,12 +91,12 @@ module _ (o c m : ℕ) (ticks : List ℕ) (ms : List Move) where
             ⊎_elim
             (λ i. f.only s i)
             (λ d. subst (λ (z : Span). Clean o c m ms z) (sym d) k)
-            (last-member f.cycles h);
+            (last_member f.cycles h);
         before = λ s m.
             ⊎_elim
             (λ i. let l = f.before s i in omega arith)
             (λ d. let h : s.closed ≡ u.closed = ap (λ (z : Span). z.closed) d in omega arith)
-            (last-member f.cycles m);
+            (last_member f.cycles m);
         counts = omega (arith, f.counts, length-append f.cycles (u ∷ []));
-        sums = omega (arith, f.sums, total-more ticks f.cycles u);
+        sums = omega (arith, f.sums, total_more ticks f.cycles u);
       }

@@ -7,10 +7,10 @@ use Rattle.std.proofs.lemmas.Bool.{false≢true}
 use Rattle.std.proofs.Math.Logic.{⊎_elim}
 use Rattle.base.specs.Telling.{Tells}
 use Rattle.grammar.specs.Moves.{Move}
-use Rattle.grammar.specs.Pace.{Kept, Edited, Span, Clean, wrapped, cycleMs}
-use Rattle.pace.specs.Found.{Found, found-start, found_none, found-one}
+use Rattle.grammar.specs.Pace.{Kept, Edited, Span, Clean, wrapped, cycle_ms}
+use Rattle.pace.specs.Found.{Found, found_start, found_none, found_one}
 use Rattle.pace.specs.Order.{below_or_not, below_next}
-use Rattle.pace.specs.Watch.{spoiledBy, closedBy, openedBy, stepBy}
+use Rattle.pace.specs.Watch.{spoiled_by, closed_by, opened_by, step_by}
 use Rattle.pace.specs.declared.Watch.{Watch}
 
 -- An edit or a kept restart mark has the place.
@@ -24,8 +24,8 @@ pub record OpenAt (o c m : ℕ) (ms : List Move) (x y e a : ℕ) : Type 0 where
   pub marked : 1 ≤ o
   pub earlier : a < x
   pub opens : Kept ms a o
-  pub no-opening : (p : ℕ) → a < p → p < x → Kept ms p o → ⊥
-  pub no-closing : (p : ℕ) → a < p → p < y → Kept ms p c → ⊥
+  pub no_opening : (p : ℕ) → a < p → p < x → Kept ms p o → ⊥
+  pub no_closing : (p : ℕ) → a < p → p < y → Kept ms p c → ⊥
   pub unspoiled : (p : ℕ) → a < p → p < e → Spoils m ms p → ⊥
 
 -- The watch stands at b: what it found, with its sum in ticks, and whether a cycle is open.
@@ -38,26 +38,26 @@ pub record Standing (o c m : ℕ) (ticks : List ℕ) (ms : List Move) (b x y e :
 
 module _ (o c m : ℕ) (ticks : List ℕ) (ms : List Move) (apart : 1 ≤ m → (p : ℕ) → Kept ms p c → Kept ms p m → ⊥) where
   -- Nothing is found before the first place.
-  pub standing-start : (since : ℕ) → Standing o c m ticks ms 0 0 0 0 (record { begun = false; since = since; count = 0; sum = 0 })
-  standing-start since =
+  pub standing_start : (since : ℕ) → Standing o c m ticks ms 0 0 0 0 (record { begun = false; since = since; count = 0; sum = 0 })
+  standing_start since =
       record {
-        found = found-start o c m ticks ms;
+        found = found_start o c m ticks ms;
         begun = λ e. absurd (false≢true e);
         idle = λ e a h. omega (arith, h.earlier);
       }
 
   module _ (b : ℕ) where
     -- First what spoils the open cycle at b.
-    stage-spoils : (spoils : Bool) (w : Watch) → Tells (Spoils m ms b) spoils → Standing o c m ticks ms b b b b w
-        → Standing o c m ticks ms b b b (b + 1) (cond spoils (spoiledBy w) w)
-    unfolding spoiledBy
-    stage-spoils true w t s =
+    stage_spoils : (spoils : Bool) (w : Watch) → Tells (Spoils m ms b) spoils → Standing o c m ticks ms b b b b w
+        → Standing o c m ticks ms b b b (b + 1) (cond spoils (spoiled_by w) w)
+    unfolding spoiled_by
+    stage_spoils true w t s =
         record {
           found = s.found;
           begun = λ e. absurd (false≢true e);
           idle = λ e a h. h.unspoiled b h.earlier (omega arith) (t.yes refl);
         }
-    stage-spoils false w t s =
+    stage_spoils false w t s =
         record {
           found = s.found;
           begun = λ e.
@@ -68,8 +68,8 @@ module _ (o c m : ℕ) (ticks : List ℕ) (ms : List Move) (apart : 1 ≤ m → 
                   marked = k.marked;
                   earlier = k.earlier;
                   opens = k.opens;
-                  no-opening = k.no-opening;
-                  no-closing = k.no-closing;
+                  no_opening = k.no_opening;
+                  no_closing = k.no_closing;
                   unspoiled = λ p l i. below_next (λ q. Spoils m ms q → ⊥) p b i (λ n. k.unspoiled p l n) (t.no refl);
                 },
                 h.2,
@@ -80,15 +80,15 @@ module _ (o c m : ℕ) (ticks : List ℕ) (ms : List Move) (apart : 1 ≤ m → 
                 marked = k.marked;
                 earlier = k.earlier;
                 opens = k.opens;
-                no-opening = k.no-opening;
-                no-closing = k.no-closing;
+                no_opening = k.no_opening;
+                no_closing = k.no_closing;
                 unspoiled = λ p l i. k.unspoiled p l (omega arith);
               });
         }
 
     -- What is open before b, with no edit up to b, and a closing mark kept at b are a clean cycle; and so the other way.
-    open-clean : (a : ℕ) → OpenAt o c m ms b b (b + 1) a → Kept ms b c → Clean o c m ms (record { opened = a; closed = b })
-    open-clean a h k =
+    open_clean : (a : ℕ) → OpenAt o c m ms b b (b + 1) a → Kept ms b c → Clean o c m ms (record { opened = a; closed = b })
+    open_clean a h k =
         record {
           cycle =
               record {
@@ -96,72 +96,72 @@ module _ (o c m : ℕ) (ticks : List ℕ) (ms : List Move) (apart : 1 ≤ m → 
                 ordered = h.earlier;
                 opens = h.opens;
                 closes = k;
-                no-opening = h.no-opening;
-                no-closing = h.no-closing;
+                no_opening = h.no_opening;
+                no_closing = h.no_closing;
               };
           unedited = λ p l i d. h.unspoiled p l (omega arith) (Spoils.edited d);
-          no-restart = λ some p l i k. h.unspoiled p l (omega arith) (Spoils.restarted some k);
+          no_restart = λ some p l i k. h.unspoiled p l (omega arith) (Spoils.restarted some k);
         }
 
     -- (The restart mark is not the closing mark, so that none stands at b.)
-    clean-open : (s : Span) → Clean o c m ms s → s.closed ≡ b → OpenAt o c m ms b b (b + 1) s.opened
-    clean-open s y e =
+    clean_open : (s : Span) → Clean o c m ms s → s.closed ≡ b → OpenAt o c m ms b b (b + 1) s.opened
+    clean_open s y e =
         record {
           marked = y.cycle.marked;
           earlier = omega (arith, y.cycle.ordered);
           opens = y.cycle.opens;
-          no-opening = λ p l m. y.cycle.no-opening p l (omega arith);
-          no-closing = λ p l m. y.cycle.no-closing p l (omega arith);
-          unspoiled = λ p l i. clean-unspoiled p l (omega arith);
+          no_opening = λ p l m. y.cycle.no_opening p l (omega arith);
+          no_closing = λ p l m. y.cycle.no_closing p l (omega arith);
+          unspoiled = λ p l i. clean_unspoiled p l (omega arith);
         }
       where
-        clean-unspoiled : (p : ℕ) → s.opened < p → p ≤ s.closed → Spoils m ms p → ⊥
-        clean-unspoiled p l i (Spoils.edited d) = y.unedited p l i d
-        clean-unspoiled p l i (Spoils.restarted some k) =
+        clean_unspoiled : (p : ℕ) → s.opened < p → p ≤ s.closed → Spoils m ms p → ⊥
+        clean_unspoiled p l i (Spoils.edited d) = y.unedited p l i d
+        clean_unspoiled p l i (Spoils.restarted some k) =
             ⊎_elim
-            (λ below. y.no-restart some p l below k)
+            (λ below. y.no_restart some p l below k)
             (λ over.
             let here : p ≡ s.closed = omega arith in
             apart some s.closed y.cycle.closes (subst (λ q. Kept ms q m) here k))
             (below_or_not p s.closed)
 
     -- One place only is open.
-    open-one : (a d : ℕ) → OpenAt o c m ms b b (b + 1) a → OpenAt o c m ms b b (b + 1) d → a ≡ d
-    open-one a d h k =
+    open_one : (a d : ℕ) → OpenAt o c m ms b b (b + 1) a → OpenAt o c m ms b b (b + 1) d → a ≡ d
+    open_one a d h k =
         ⊎_elim
-        (λ l. absurd (h.no-opening d l k.earlier k.opens))
+        (λ l. absurd (h.no_opening d l k.earlier k.opens))
         (λ l.
         ⊎_elim
-        (λ m. absurd (k.no-opening a m h.earlier h.opens))
+        (λ m. absurd (k.no_opening a m h.earlier h.opens))
         (λ m. omega arith)
         (below_or_not d a))
         (below_or_not a d)
 
     -- Then the closing mark: it counts the open cycle, and ends it.
-    close-begun : (tick : ℕ) (w : Watch) → tick ≡ slice_index ticks b → Kept ms b c → w.begun ≡ true
+    close_begun : (tick : ℕ) (w : Watch) → tick ≡ slice_index ticks b → Kept ms b c → w.begun ≡ true
         → Standing o c m ticks ms b b b (b + 1) w
         → Found o c m ticks ms (b + 1) (w.count + 1) (w.sum + wrapped w.since tick)
-    unfolding cycleMs
-    close-begun tick w t k e s =
+    unfolding cycle_ms
+    close_begun tick w t k e s =
         let h = s.begun e in
         let u : Span = record { opened = h.0; closed = b } in
         let since = h.2 in
         let time : wrapped (slice_index ticks h.0) (slice_index ticks b) ≡ wrapped w.since tick = cc in
         subst (λ (z : ℕ). Found o c m ticks ms (b + 1) (w.count + 1) (w.sum + z)) time
-        (found-one o c m ticks ms b u refl (open-clean h.0 h.1 k)
+        (found_one o c m ticks ms b u refl (open_clean h.0 h.1 k)
         (λ v y d.
-        let same : v.opened ≡ h.0 = open-one v.opened h.0 (clean-open v y d) h.1 in
+        let same : v.opened ≡ h.0 = open_one v.opened h.0 (clean_open v y d) h.1 in
         ap (λ (z : ℕ). record { opened = z; closed = v.closed }) same ∙ ap (λ (z : ℕ). record { opened = h.0; closed = z }) d)
         s.found)
 
     -- Nothing is open at b once a closing mark is kept there.
     ended : Kept ms b c → (a : ℕ) → OpenAt o c m ms b (b + 1) (b + 1) a → ⊥
-    ended k a h = h.no-closing b h.earlier (omega arith) k
+    ended k a h = h.no_closing b h.earlier (omega arith) k
 
-    stage-close : (tick : ℕ) (w : Watch) → tick ≡ slice_index ticks b → Kept ms b c → Standing o c m ticks ms b b b (b + 1) w
-        → Standing o c m ticks ms (b + 1) b (b + 1) (b + 1) (closedBy tick w)
-    unfolding closedBy
-    stage-close tick w t k s = go w.begun refl
+    stage_close : (tick : ℕ) (w : Watch) → tick ≡ slice_index ticks b → Kept ms b c → Standing o c m ticks ms b b b (b + 1) w
+        → Standing o c m ticks ms (b + 1) b (b + 1) (b + 1) (closed_by tick w)
+    unfolding closed_by
+    stage_close tick w t k s = go w.begun refl
       where
         go : (q : Bool) → w.begun ≡ q
             → Standing o c m ticks ms (b + 1) b (b + 1) (b + 1)
@@ -170,22 +170,22 @@ module _ (o c m : ℕ) (ticks : List ℕ) (ms : List Move) (apart : 1 ≤ m → 
             w)
         go true e =
             record {
-              found = close-begun tick w t k e s;
+              found = close_begun tick w t k e s;
               begun = λ f. absurd (false≢true f);
               idle = λ f. ended k;
             }
         go false e =
             record {
-              found = found_none o c m ticks ms b (λ v y d. s.idle e v.opened (clean-open v y d)) s.found;
+              found = found_none o c m ticks ms b (λ v y d. s.idle e v.opened (clean_open v y d)) s.found;
               begun = λ f. absurd (true≢false (sym f ∙ e));
               idle = λ f. ended k;
             }
 
-    stage-closing : (closes : Bool) (tick : ℕ) (w : Watch) → tick ≡ slice_index ticks b → Tells (Kept ms b c) closes
+    stage_closing : (closes : Bool) (tick : ℕ) (w : Watch) → tick ≡ slice_index ticks b → Tells (Kept ms b c) closes
         → Standing o c m ticks ms b b b (b + 1) w
-        → Standing o c m ticks ms (b + 1) b (b + 1) (b + 1) (cond closes (closedBy tick w) w)
-    stage-closing true tick w t k s = stage-close tick w t (k.yes refl) s
-    stage-closing false tick w t n s =
+        → Standing o c m ticks ms (b + 1) b (b + 1) (b + 1) (cond closes (closed_by tick w) w)
+    stage_closing true tick w t k s = stage_close tick w t (k.yes refl) s
+    stage_closing false tick w t n s =
         record {
           found = found_none o c m ticks ms b (λ v y d. n.no refl (subst (λ q. Kept ms q c) d y.cycle.closes)) s.found;
           begun = λ e.
@@ -196,8 +196,8 @@ module _ (o c m : ℕ) (ticks : List ℕ) (ms : List Move) (apart : 1 ≤ m → 
                   marked = k.marked;
                   earlier = k.earlier;
                   opens = k.opens;
-                  no-opening = k.no-opening;
-                  no-closing = λ p l m. below_next (λ q. Kept ms q c → ⊥) p b m (λ i. k.no-closing p l i) (n.no refl);
+                  no_opening = k.no_opening;
+                  no_closing = λ p l m. below_next (λ q. Kept ms q c → ⊥) p b m (λ i. k.no_closing p l i) (n.no refl);
                   unspoiled = k.unspoiled;
                 },
                 h.2,
@@ -208,64 +208,64 @@ module _ (o c m : ℕ) (ticks : List ℕ) (ms : List Move) (apart : 1 ≤ m → 
                 marked = k.marked;
                 earlier = k.earlier;
                 opens = k.opens;
-                no-opening = k.no-opening;
-                no-closing = λ p l m. k.no-closing p l (omega arith);
+                no_opening = k.no_opening;
+                no_closing = λ p l m. k.no_closing p l (omega arith);
                 unspoiled = k.unspoiled;
               });
         }
 
     -- Last the opening mark: a cycle is open from b on. An edit at b was before it.
-    opened-here : 1 ≤ o → Kept ms b o → OpenAt o c m ms (b + 1) (b + 1) (b + 1) b
-    opened-here l k =
+    opened_here : 1 ≤ o → Kept ms b o → OpenAt o c m ms (b + 1) (b + 1) (b + 1) b
+    opened_here l k =
         record {
           marked = l;
           earlier = omega arith;
           opens = k;
-          no-opening = λ p h m. absurd (omega arith);
-          no-closing = λ p h m. absurd (omega arith);
+          no_opening = λ p h m. absurd (omega arith);
+          no_closing = λ p h m. absurd (omega arith);
           unspoiled = λ p h i. absurd (omega arith);
         }
 
     -- Without one, what was open stays open.
-    open-still : (a : ℕ) → (Kept ms b o → ⊥) → OpenAt o c m ms b (b + 1) (b + 1) a → OpenAt o c m ms (b + 1) (b + 1) (b + 1) a
-    open-still a n k =
+    open_still : (a : ℕ) → (Kept ms b o → ⊥) → OpenAt o c m ms b (b + 1) (b + 1) a → OpenAt o c m ms (b + 1) (b + 1) (b + 1) a
+    open_still a n k =
         record {
           marked = k.marked;
           earlier = omega (arith, k.earlier);
           opens = k.opens;
-          no-opening = λ p l m. below_next (λ q. Kept ms q o → ⊥) p b m (λ i. k.no-opening p l i) n;
-          no-closing = k.no-closing;
+          no_opening = λ p l m. below_next (λ q. Kept ms q o → ⊥) p b m (λ i. k.no_opening p l i) n;
+          no_closing = k.no_closing;
           unspoiled = k.unspoiled;
         }
 
-    open-before : (a : ℕ) → a < b → OpenAt o c m ms (b + 1) (b + 1) (b + 1) a → OpenAt o c m ms b (b + 1) (b + 1) a
-    open-before a l k =
+    open_before : (a : ℕ) → a < b → OpenAt o c m ms (b + 1) (b + 1) (b + 1) a → OpenAt o c m ms b (b + 1) (b + 1) a
+    open_before a l k =
         record {
           marked = k.marked;
           earlier = l;
           opens = k.opens;
-          no-opening = λ p h m. k.no-opening p h (omega arith);
-          no-closing = k.no-closing;
+          no_opening = λ p h m. k.no_opening p h (omega arith);
+          no_closing = k.no_closing;
           unspoiled = k.unspoiled;
         }
 
-    stage-opening : (opens : Bool) (tick : ℕ) (w : Watch) → tick ≡ slice_index ticks b → (opens ≡ true → 1 ≤ o) → Tells (Kept ms b o) opens
+    stage_opening : (opens : Bool) (tick : ℕ) (w : Watch) → tick ≡ slice_index ticks b → (opens ≡ true → 1 ≤ o) → Tells (Kept ms b o) opens
         → Standing o c m ticks ms (b + 1) b (b + 1) (b + 1) w
-        → Standing o c m ticks ms (b + 1) (b + 1) (b + 1) (b + 1) (cond opens (openedBy tick w) w)
-    unfolding openedBy
-    stage-opening true tick w t l k s =
+        → Standing o c m ticks ms (b + 1) (b + 1) (b + 1) (b + 1) (cond opens (opened_by tick w) w)
+    unfolding opened_by
+    stage_opening true tick w t l k s =
         record {
           found = s.found;
-          begun = λ e. (b, opened-here (l refl) (k.yes refl), t);
+          begun = λ e. (b, opened_here (l refl) (k.yes refl), t);
           idle = λ e. absurd (true≢false e);
         }
-    stage-opening false tick w t l n s =
+    stage_opening false tick w t l n s =
         record {
           found = s.found;
-          begun = λ e. let h = s.begun e in (h.0, open-still h.0 (n.no refl) h.1, h.2);
+          begun = λ e. let h = s.begun e in (h.0, open_still h.0 (n.no refl) h.1, h.2);
           idle = λ e a k.
               ⊎_elim
-              (λ m. s.idle e a (open-before a m k))
+              (λ m. s.idle e a (open_before a m k))
               (λ m.
               let d : a ≡ b = omega (arith, k.earlier) in
               n.no refl (subst (λ q. Kept ms q o) d k.opens))
@@ -273,11 +273,11 @@ module _ (o c m : ℕ) (ticks : List ℕ) (ms : List Move) (apart : 1 ≤ m → 
         }
 
     -- A place is passed.
-    pub standing-next : (spoils closes opens : Bool) (tick : ℕ) (w : Watch) → tick ≡ slice_index ticks b → (opens ≡ true → 1 ≤ o)
+    pub standing_next : (spoils closes opens : Bool) (tick : ℕ) (w : Watch) → tick ≡ slice_index ticks b → (opens ≡ true → 1 ≤ o)
         → Tells (Spoils m ms b) spoils → Tells (Kept ms b c) closes → Tells (Kept ms b o) opens → Standing o c m ticks ms b b b b w
-        → Standing o c m ticks ms (b + 1) (b + 1) (b + 1) (b + 1) (stepBy spoils closes opens tick w)
-    unfolding stepBy
-    standing-next spoils closes opens tick w t l x y z s =
-        let spoiled = cond spoils (spoiledBy w) w in
-        let closed = cond closes (closedBy tick spoiled) spoiled in
-        stage-opening opens tick closed t l z (stage-closing closes tick spoiled t y (stage-spoils spoils w x s))
+        → Standing o c m ticks ms (b + 1) (b + 1) (b + 1) (b + 1) (step_by spoils closes opens tick w)
+    unfolding step_by
+    standing_next spoils closes opens tick w t l x y z s =
+        let spoiled = cond spoils (spoiled_by w) w in
+        let closed = cond closes (closed_by tick spoiled) spoiled in
+        stage_opening opens tick closed t l z (stage_closing closes tick spoiled t y (stage_spoils spoils w x s))

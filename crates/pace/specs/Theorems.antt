@@ -5,36 +5,36 @@ use Rattle.std.proofs.Common.{arith}
 use Rattle.std.specs.Float.{binary64}
 use Rattle.std.specs.Float.Ieee.{of_int, to_unsigned}
 use Rattle.grammar.specs.Refusals.{given}
-use Rattle.grammar.specs.Pace.{Span, wrapped, cycleMs, Reported}
+use Rattle.grammar.specs.Pace.{Span, wrapped, cycle_ms, Reported}
 use Rattle.grammar.specs.declared.Report.{Report}
 use Rattle.grammar.specs.declared.Counts.{Counts}
-use Rattle.grammar.specs.theory.Sentences as Sentences
-use Rattle.pace.specs.Answer.{pacedOf, paced-same}
-use Rattle.grammar.specs.theory.Requests.{report-limits}
+use Rattle.grammar.specs.Theory.Sentences as Sentences
+use Rattle.pace.specs.Answer.{paced_of, paced_same}
+use Rattle.grammar.specs.Theory.Requests.{report_limits}
 use Rattle.pace.specs.Exact.{exact}
 use Rattle.pace.specs.declared.Paced.{Paced}
 
 -- The report is the only one, and so is every word of the buffers.
-pub report-unique : {ws log ticks : List ℕ} {editRoom ruleRoom : ℕ} (r s : Paced) {x y u v : List ℕ}
-    → Reported ws log ticks editRoom ruleRoom (pacedOf r) x u → Reported ws log ticks editRoom ruleRoom (pacedOf s) y v
+pub report_unique : {ws log ticks : List ℕ} {edit_room rule_room : ℕ} (r s : Paced) {x y u v : List ℕ}
+    → Reported ws log ticks edit_room rule_room (paced_of r) x u → Reported ws log ticks edit_room rule_room (paced_of s) y v
     → (r ≡ s) × (x ≡ y) × (u ≡ v)
-report-unique r s p q =
-    let same = Sentences.reported-unique p q in
-    (paced-same r s same.0, same.1, same.2)
+report_unique r s p q =
+    let same = Sentences.reported_unique p q in
+    (paced_same r s same.0, same.1, same.2)
 
-module _ {ws log ticks : List ℕ} {editRoom ruleRoom : ℕ} {report : Report} {counts : Counts} {x y : List ℕ}
-    (reported : Reported ws log ticks editRoom ruleRoom (given (report, counts)) x y) where
+module _ {ws log ticks : List ℕ} {edit_room rule_room : ℕ} {report : Report} {counts : Counts} {x y : List ℕ}
+    (reported : Reported ws log ticks edit_room rule_room (given (report, counts)) x y) where
   -- Sum and count become floats without loss.
-  pub sum-exact : to_unsigned 64 (of_int binary64 (pos report.sum)) ≡ report.sum
-  sum-exact = let limits = report-limits reported in exact report.sum (omega (arith, limits.0, limits.1))
+  pub sum_exact : to_unsigned 64 (of_int binary64 (pos report.sum)) ≡ report.sum
+  sum_exact = let limits = report_limits reported in exact report.sum (omega (arith, limits.0, limits.1))
 
-  pub count-exact : to_unsigned 64 (of_int binary64 (pos report.count)) ≡ report.count
-  count-exact = let limits = report-limits reported in exact report.count (omega (arith, limits.0))
+  pub count_exact : to_unsigned 64 (of_int binary64 (pos report.count)) ≡ report.count
+  count_exact = let limits = report_limits reported in exact report.count (omega (arith, limits.0))
 
 -- "This is the true time where that is below 2^32 ticks": the ticks of a cycle are the remainders of true times, in ms, of
 -- which the second is the later; its time is their difference.
-pub true-time : (ticks : List ℕ) (s : Span) (from to : ℕ) → slice_index ticks s.opened ≡ from % 4294967296
+pub true_time : (ticks : List ℕ) (s : Span) (from to : ℕ) → slice_index ticks s.opened ≡ from % 4294967296
     → slice_index ticks s.closed ≡ to % 4294967296 → from ≤ to → to - from < 4294967296
-    → cycleMs ticks s ≡ to - from
-unfolding cycleMs wrapped
-true-time ticks s from to e f l below = omega arith
+    → cycle_ms ticks s ≡ to - from
+unfolding cycle_ms wrapped
+true_time ticks s from to e f l below = omega arith

@@ -3,14 +3,14 @@
 use Rattle.std.specs.Prelude.{◌≡◌, ℕ, ◌+◌, ◌-◌, ◌*◌, ◌<◌, ◌≤◌, Bool, true, false, cond, not, ◌&&◌, ◌||◌, List, length, ◌==◌, slice_index}
 use Rattle.std.proofs.Math.Option.{none}
 use Rattle.base.specs.Telling.{Tells}
-use Rattle.grammar.specs.Words.{Shaped, opening, closing, restartMark}
-use Rattle.grammar.specs.Moves.{Move, edits, editWords}
+use Rattle.grammar.specs.Words.{Shaped, opening, closing, restart_mark}
+use Rattle.grammar.specs.Moves.{Move, edits, edit_words}
 use Rattle.grammar.specs.Buffers.{filled}
-use Rattle.grammar.specs.Run.{RunOf, countsOf}
+use Rattle.grammar.specs.Run.{RunOf, counts_of}
 use Rattle.grammar.specs.Pace.{wrapped, Reports}
 use Rattle.grammar.specs.Refusals.{given}
 use Rattle.grammar.specs.declared.Report.{Report}
-use Rattle.grammar.specs.theory.Answers.{Admitted}
+use Rattle.grammar.specs.Theory.Answers.{Admitted}
 use Rattle.pace.specs.declared.Marks.{Marks}
 use Rattle.pace.specs.declared.Here.{Here}
 use Rattle.pace.specs.declared.Watch.{Watch}
@@ -21,27 +21,27 @@ use Rattle.pace.specs.declared.Watch.{Watch}
 abbrev pub kind_at : List ℕ → ℕ → ℕ
 kind_at words i = slice_index words (3 * i)
 
-abbrev pub placeAt : List ℕ → ℕ → ℕ
-placeAt words i = slice_index words (3 * i + 1)
+abbrev pub place_at : List ℕ → ℕ → ℕ
+place_at words i = slice_index words (3 * i + 1)
 
 -- The records are there, and their places never fall.
 pub record Records (words : List ℕ) (records : ℕ) : Type 0 where
   pub room : 3 * records ≤ length words
-  pub ordered : (i j : ℕ) → i ≤ j → j < records → placeAt words i ≤ placeAt words j
+  pub ordered : (i j : ℕ) → i ≤ j → j < records → place_at words i ≤ place_at words j
 
 -- The cursor `at` stands before the records of place p: those before it have earlier places, the others have not.
 pub record Cursor (words : List ℕ) (records at p : ℕ) : Type 0 where
   pub rising : Records words records
   pub within : at ≤ records
-  pub before : (i : ℕ) → i < at → placeAt words i < p
-  pub onward : (i : ℕ) → at ≤ i → i < records → p ≤ placeAt words i
+  pub before : (i : ℕ) → i < at → place_at words i < p
+  pub onward : (i : ℕ) → at ≤ i → i < records → p ≤ place_at words i
 
 -- Some record has place p; some delete record has.
 abbrev pub SomeAt : List ℕ → ℕ → ℕ → Type 0
-SomeAt words records p = (i : ℕ) × (i < records) × (placeAt words i ≡ p)
+SomeAt words records p = (i : ℕ) × (i < records) × (place_at words i ≡ p)
 
 abbrev pub DeleteAt : List ℕ → ℕ → ℕ → Type 0
-DeleteAt words records p = (i : ℕ) × (i < records) × (placeAt words i ≡ p) × (kind_at words i ≡ 1)
+DeleteAt words records p = (i : ℕ) × (i < records) × (place_at words i ≡ p) × (kind_at words i ≡ 1)
 
 -- What the records say of place p, and the cursor for the next place.
 pub record Stands (words : List ℕ) (records p : ℕ) (here : Here) : Type 0 where
@@ -52,37 +52,37 @@ pub record Stands (words : List ℕ) (records p : ℕ) (here : Here) : Type 0 wh
 -- ---- The watch
 
 -- An edit spoils the open cycle.
-unfoldable pub spoiledBy : Watch → Watch
-spoiledBy w = record { begun = false; since = w.since; count = w.count; sum = w.sum }
+unfoldable pub spoiled_by : Watch → Watch
+spoiled_by w = record { begun = false; since = w.since; count = w.count; sum = w.sum }
 
 -- A closing mark counts the open cycle, which is clean, with its time in ticks.
-unfoldable pub closedBy : ℕ → Watch → Watch
-closedBy tick w =
+unfoldable pub closed_by : ℕ → Watch → Watch
+closed_by tick w =
     cond w.begun
     (record { begun = false; since = w.since; count = w.count + 1; sum = w.sum + wrapped w.since tick })
     w
 
 -- An opening mark opens a cycle.
-unfoldable pub openedBy : ℕ → Watch → Watch
-openedBy tick w = record { begun = true; since = tick; count = w.count; sum = w.sum }
+unfoldable pub opened_by : ℕ → Watch → Watch
+opened_by tick w = record { begun = true; since = tick; count = w.count; sum = w.sum }
 
 -- A place is passed: first what spoils there, then the closing mark, then the opening mark. A mark that is both does both.
-unfoldable pub stepBy : Bool → Bool → Bool → ℕ → Watch → Watch
-unfolding spoiledBy closedBy openedBy
-stepBy spoils closes opens tick w =
-    let spoiled = cond spoils (spoiledBy w) w in
-    let closed = cond closes (closedBy tick spoiled) spoiled in
-    cond opens (openedBy tick closed) closed
+unfoldable pub step_by : Bool → Bool → Bool → ℕ → Watch → Watch
+unfolding spoiled_by closed_by opened_by
+step_by spoils closes opens tick w =
+    let spoiled = cond spoils (spoiled_by w) w in
+    let closed = cond closes (closed_by tick spoiled) spoiled in
+    cond opens (opened_by tick closed) closed
 
 -- The marks of the words.
-abbrev pub marksOf : List ℕ → Marks
-marksOf ws = record { opening = opening ws; closing = closing ws; restart = restartMark ws }
+abbrev pub marks_of : List ℕ → Marks
+marks_of ws = record { opening = opening ws; closing = closing ws; restart = restart_mark ws }
 
 -- A mark counts where its token is kept. A restart mark spoils as an edit does.
 unfoldable pub passed_by : Marks → Here → ℕ → ℕ → Watch → Watch
-unfolding stepBy
+unfolding step_by
 passed_by marks here token tick w =
-    stepBy (here.edited || token == marks.restart) (not here.deleted && token == marks.closing)
+    step_by (here.edited || token == marks.restart) (not here.deleted && token == marks.closing)
     (not here.deleted && token == marks.opening) tick w
 
 -- Few cycles so far: nothing overflows at one more.
@@ -108,12 +108,12 @@ pub record Lent (ws log ticks words : List ℕ) (records : ℕ) : Type 0 where
 -- The run of the log ended with the moves ms, and the words are what it left in the edit buffer.
 pub record Ran (ws log words : List ℕ) (records : ℕ) (ms : List Move) : Type 0 where
   pub admitted : Admitted ws log
-  pub editRoom : ℕ
-  pub ruleRoom : ℕ
-  pub run : RunOf ws log editRoom ruleRoom ms none
-  pub left : words ≡ filled editRoom (editWords (edits ms))
+  pub edit_room : ℕ
+  pub rule_room : ℕ
+  pub run : RunOf ws log edit_room rule_room ms none
+  pub left : words ≡ filled edit_room (edit_words (edits ms))
   pub counted : records ≡ length (edits ms)
 
 -- The report is that of the run, whichever run it was that left these edits.
 pub record Finds (ws log ticks words : List ℕ) (records : ℕ) (report : Report) : Type 0 where
-  pub of-run : (ms : List Move) → Ran ws log words records ms → Reports ws ticks (given ms) (given (report, countsOf ms))
+  pub of_run : (ms : List Move) → Ran ws log words records ms → Reports ws ticks (given ms) (given (report, counts_of ms))

@@ -2,28 +2,28 @@
 // edit records, whose places never fall.
 ghost use Rattle.std.specs.Prelude.{◌≡◌, ◌+◌, ◌*◌, ◌<◌, ◌≤◌, true, ◌||◌, length, ◌==◌};
 ghost use Rattle.grammar.specs.Words.{Shaped};
-ghost use Rattle.grammar.specs.Pace.{Reported, paceOf, wrapped};
+ghost use Rattle.grammar.specs.Pace.{Reported, pace_of, wrapped};
 ghost use Rattle.base.specs.Telling.{Tells};
-ghost use Rattle.pace.specs.Answer.{pacedOf};
+ghost use Rattle.pace.specs.Answer.{paced_of};
 ghost use Rattle.pace.specs.Watch.{
   Cursor,
   Finds,
   Lent,
   Small,
   Stands,
-  closedBy,
+  closed_by,
   kind_at,
-  marksOf,
-  openedBy,
+  marks_of,
+  opened_by,
   passed_by,
-  placeAt,
-  spoiledBy,
+  place_at,
+  spoiled_by,
 };
 
 use grammar::{Counts, Refusal, Report};
 use parser::{Asking, Parsing};
 
-// The answer: the report with the counts of its parse, or a refusal. `pacedOf` of specs/Answer.antt says what each stands for.
+// The answer: the report with the counts of its parse, or a refusal. `paced_of` of specs/Answer.antt says what each stands for.
 #[derive(Drop)]
 pub enum Paced {
     Reported(Report, Counts),
@@ -70,7 +70,7 @@ pub fn report(
     rules: &mut [u16],
 ) -> Paced
     ensures { Reported words.now log.now ticks.now (length edits.old)
-        (length rules.old) (pacedOf result) edits.new rules.new }
+        (length rules.old) (paced_of result) edits.new rules.new }
 {
     let asking = Asking {
         timed: ticks.len() == log.len(),
@@ -120,7 +120,7 @@ fn cycles(words: &[u16], log: &[u16], ticks: &[u32], edits: &[u16], records: usi
 // The marks of the words.
 fn marks_of(words: &[u16]) -> Marks
     requires { Shaped words.now }
-    ensures { result ≡ marksOf words.now }
+    ensures { result ≡ marks_of words.now }
 {
     Marks {
         opening: shape::opening(words),
@@ -132,7 +132,7 @@ fn marks_of(words: &[u16]) -> Marks
 // "Idle when the count is 0, else the mean in ms as an f64, sum and count each converted without loss and divided once."
 fn pace_of(count: u32, sum: u64) -> grammar::Pace
     requires { sum ≤ 9007199254740992 }
-    ensures { result ≡ paceOf count sum }
+    ensures { result ≡ pace_of count sum }
 {
     if count == 0 {
         grammar::Pace::Idle
@@ -166,7 +166,7 @@ fn here_at(edits: &[u16], records: usize, at: usize, place: usize) -> Here
 // Whether there is a record i, and it has the place.
 fn stands(edits: &[u16], records: usize, i: usize, place: usize) -> bool
     requires { 3 * records ≤ length edits.now }
-    ensures { Tells ((i < records) × (placeAt edits.now i ≡ place)) result }
+    ensures { Tells ((i < records) × (place_at edits.now i ≡ place)) result }
 {
     if i < records {
         return place_of(edits, i) == place;
@@ -177,7 +177,7 @@ fn stands(edits: &[u16], records: usize, i: usize, place: usize) -> bool
 // The place of record i.
 fn place_of(edits: &[u16], i: usize) -> usize
     requires { 3 * i + 3 ≤ length edits.now }
-    ensures { result ≡ placeAt edits.now i }
+    ensures { result ≡ place_at edits.now i }
 {
     base::wide(edits[3 * i + 1])
 }
@@ -217,7 +217,7 @@ impl Watch {
 
     // An edit or a restart: the open cycle is clean no more.
     fn spoiled(mut self) -> Watch
-        ensures { result ≡ spoiledBy self }
+        ensures { result ≡ spoiled_by self }
     {
         self.begun = false;
         self
@@ -227,7 +227,7 @@ impl Watch {
     fn closed(mut self, tick: u32) -> Watch
         requires small { Small self }
         requires begun_value { self.begun ≡ true }
-        ensures { result ≡ closedBy tick self }
+        ensures { result ≡ closed_by tick self }
     {
         self.begun = false;
         self.count += 1;
@@ -237,7 +237,7 @@ impl Watch {
 
     // An opening mark: a cycle is open from its tick on.
     fn opened(mut self, tick: u32) -> Watch
-        ensures { result ≡ openedBy tick self }
+        ensures { result ≡ opened_by tick self }
     {
         self.begun = true;
         self.since = tick;

@@ -6,5 +6,5 @@ use Rattle.grammar.specs.declared.Refusal.TheVariants.{Hundredths}
 use Rattle.parser.specs.declared.Asking.{Asking}
 
 -- What the two tests stand for: refusal 10 where the first is false, 16 behind it where the second is.
-abbrev pub asksBy : Asking → Asks
-asksBy a = record { under-10 = a.timed ≡ true; behind-10 = (Hundredths unless (a.paced ≡ true)) ∷ [] }
+abbrev pub asks_by : Asking → Asks
+asks_by a = record { under_10 = a.timed ≡ true; behind_10 = (Hundredths unless (a.paced ≡ true)) ∷ [] }

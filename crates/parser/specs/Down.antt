@@ -11,22 +11,22 @@ use Rattle.grammar.specs.Words.{Terminal}
 use Rattle.grammar.specs.Derivation.{Rules, All, First}
 use Rattle.grammar.specs.Grammar.{Grammar}
 use Rattle.grammar.specs.Run.{Pick, Choice}
-use Rattle.grammar.specs.theory.Leftmost.{Der, to-der}
-use Rattle.grammar.specs.theory.Reach.{first_past}
-use Rattle.grammar.specs.theory.Sides.{first-behind}
-use Rattle.grammar.specs.theory.Tables.{Sized, SymbolOf}
-use Rattle.moves.specs.Tests.{beginsBy, emptyBy}
+use Rattle.grammar.specs.Theory.Leftmost.{Der, to_der}
+use Rattle.grammar.specs.Theory.Reach.{first_past}
+use Rattle.grammar.specs.Theory.Sides.{first_behind}
+use Rattle.grammar.specs.Theory.Tables.{Sized, SymbolOf}
+use Rattle.moves.specs.Tests.{begins_by, empty_by}
 use Rattle.moves.specs.Pile.{pile}
 use Rattle.moves.specs.Ways.{Passed, Fitting, Sticking}
 use Rattle.moves.specs.declared.Parser.{Parser}
-use Rattle.correction.specs.Symbols.{Known, begins-first, first-begins, empty-null, null-empty, pile-cell}
+use Rattle.correction.specs.Symbols.{Known, begins_first, first_begins, empty_null, null_empty, pile_cell}
 
 -- A choice at a stack and a rest that are these.
-pub choice-at : {G : Grammar} {σ σ' ρ ρ' : List ℕ} {x : Pick} → σ ≡ σ' → ρ ≡ ρ' → Choice G σ' ρ' x → Choice G σ ρ x
-choice-at {G} {σ} {σ'} {ρ} {ρ'} {x} e f c = subst (λ l. Choice G l ρ x) (sym e) (subst (λ l. Choice G σ' l x) (sym f) c)
+pub choice_at : {G : Grammar} {σ σ' ρ ρ' : List ℕ} {x : Pick} → σ ≡ σ' → ρ ≡ ρ' → Choice G σ' ρ' x → Choice G σ ρ x
+choice_at {G} {σ} {σ'} {ρ} {ρ'} {x} e f c = subst (λ l. Choice G l ρ x) (sym e) (subst (λ l. Choice G σ' l x) (sym f) c)
 
-nothing-first : {R : Rules} {t : ℕ} → First R [] t → ⊥
-nothing-first {R} f = go (to-der R f.begins)
+nothing_first : {R : Rules} {t : ℕ} → First R [] t → ⊥
+nothing_first {R} f = go (to_der R f.begins)
   where
     go : {u : ℕ} {γ : List ℕ} → Der R [] (u ∷ γ) → ⊥
     go d = elim d [ ]
@@ -39,11 +39,11 @@ module _ {S : Sized} {log masks prices : List ℕ} (known : Known S log masks pr
   both e f = true≢false (sym e ∙ f)
 
   cell : (i : ℕ) → i < h → SymbolOf S (get_or stack i 0)
-  cell i l = pile-cell stack h symbols i l
+  cell i l = pile_cell stack h symbols i l
 
   -- The token is in FIRST of no symbol that was passed.
-  pub passed-not : {e : ℕ} → Passed masks stack t h e → (i : ℕ) → e ≤ i → i < h → First S.grammar.rules (get_or stack i 0 ∷ []) t → ⊥
-  passed-not p i l k f = both (first-begins known (get_or stack i 0) t (cell i k) f) (p.outside i l k)
+  pub passed_not : {e : ℕ} → Passed masks stack t h e → (i : ℕ) → e ≤ i → i < h → First S.grammar.rules (get_or stack i 0 ∷ []) t → ⊥
+  passed_not p i l k f = both (first_begins known (get_or stack i 0) t (cell i k) f) (p.outside i l k)
 
   -- Where it is in FIRST of the stack at height e, it is so at each height above that was passed.
   pub passed_first : {e : ℕ} → Passed masks stack t h e → First S.grammar.rules (pile stack e) t → (n : ℕ) → e + n ≤ h
@@ -53,51 +53,51 @@ module _ {S : Sized} {log masks prices : List ℕ} (known : Known S log masks pr
   passed_first {e} p f (suc n) l =
       let k : suc (e + n) ≡ e + suc n = omega arith in
       subst (λ j. First S.grammar.rules (pile stack j) t) k
-      (first-behind S.grammar.rules
-      (empty-null known (get_or stack (e + n) 0) (cell (e + n) (omega arith)) (p.empty (e + n) (omega arith) (omega arith)))
+      (first_behind S.grammar.rules
+      (empty_null known (get_or stack (e + n) 0) (cell (e + n) (omega arith)) (p.empty (e + n) (omega arith) (omega arith)))
       (passed_first p f n (omega arith)))
 
   -- From FIRST of the stack down to what was not passed.
-  passed-down : {e : ℕ} → Passed masks stack t h e → (n : ℕ) → e + n ≤ h → First S.grammar.rules (pile stack (e + n)) t
+  passed_down : {e : ℕ} → Passed masks stack t h e → (n : ℕ) → e + n ≤ h → First S.grammar.rules (pile stack (e + n)) t
       → First S.grammar.rules (pile stack e) t
   unfolding pile
-  passed-down {e} p zero l f = let k : e + 0 ≡ e = omega arith in subst (λ j. First S.grammar.rules (pile stack j) t) k f
-  passed-down {e} p (suc n) l f =
+  passed_down {e} p zero l f = let k : e + 0 ≡ e = omega arith in subst (λ j. First S.grammar.rules (pile stack j) t) k f
+  passed_down {e} p (suc n) l f =
       let k : e + suc n ≡ suc (e + n) = omega arith in
-      passed-down p n (omega arith)
+      passed_down p n (omega arith)
       (first_past S.grammar.rules (subst (λ j. First S.grammar.rules (pile stack j) t) k f)
-      (passed-not p (e + n) (omega arith) (omega arith))).1
+      (passed_not p (e + n) (omega arith) (omega arith))).1
 
   -- The token begins the top of what is left.
-  pub fitting-first : {p d : Parser} → p.height ≡ h → Fitting masks stack t p d
+  pub fitting_first : {p d : Parser} → p.height ≡ h → Fitting masks stack t p d
       → First S.grammar.rules (get_or stack (d.height - 1) 0 ∷ []) t
-  fitting-first {p} {d} e w =
-      begins-first known (get_or stack (d.height - 1) 0) t (cell (d.height - 1) (omega (arith, w.passed.within, w.some)))
+  fitting_first {p} {d} e w =
+      begins_first known (get_or stack (d.height - 1) 0) t (cell (d.height - 1) (omega (arith, w.passed.within, w.some)))
       token w.begins
 
   -- A token that is stuck is in FIRST of the stack nowhere: it is in error.
-  pub stuck-error : {p : Parser} → p.height ≡ h → Sticking masks stack t p → First S.grammar.rules (pile stack h) t → ⊥
+  pub stuck_error : {p : Parser} → p.height ≡ h → Sticking masks stack t p → First S.grammar.rules (pile stack h) t → ⊥
   unfolding pile
-  stuck-error {p} q w f =
+  stuck_error {p} q w f =
       let passed : Passed masks stack t h w.height = subst (λ k. Passed masks stack t k w.height) q w.passed in
       let e : h ≡ w.height + (h - w.height) = omega (arith, passed.within) in
-      let g = passed-down passed (h - w.height) (omega (arith, passed.within))
+      let g = passed_down passed (h - w.height) (omega (arith, passed.within))
       (subst (λ k. First S.grammar.rules (pile stack k) t) e f) in
       ⊎_elim
-      (λ z. nothing-first (subst (λ k. First S.grammar.rules (pile stack k) t) z g))
+      (λ z. nothing_first (subst (λ k. First S.grammar.rules (pile stack k) t) z g))
       (λ z. inside passed.within z.0 z.1 g)
       w.stops
     where
-      inside : w.height ≤ h → beginsBy masks (get_or stack (w.height - 1) 0) t ≡ false
-          → emptyBy masks (get_or stack (w.height - 1) 0) ≡ false
+      inside : w.height ≤ h → begins_by masks (get_or stack (w.height - 1) 0) t ≡ false
+          → empty_by masks (get_or stack (w.height - 1) 0) ≡ false
           → First S.grammar.rules (pile stack w.height) t → ⊥
       inside l b n g = below w.height refl g
         where
           below : (k : ℕ) → k ≡ w.height → First S.grammar.rules (pile stack k) t → ⊥
-          below zero z g = nothing-first g
+          below zero z g = nothing_first g
           below (suc k) z g =
               let i : w.height - 1 ≡ k = omega arith in
               let inner = cell k (omega arith) in
               let past = first_past S.grammar.rules g
-              (λ f. both (first-begins known (get_or stack k 0) t inner f) (subst (λ j. beginsBy masks (get_or stack j 0) t ≡ false) i b)) in
-              both (null-empty known (get_or stack k 0) inner past.0) (subst (λ j. emptyBy masks (get_or stack j 0) ≡ false) i n)
+              (λ f. both (first_begins known (get_or stack k 0) t inner f) (subst (λ j. begins_by masks (get_or stack j 0) t ≡ false) i b)) in
+              both (null_empty known (get_or stack k 0) inner past.0) (subst (λ j. empty_by masks (get_or stack j 0) ≡ false) i n)

@@ -2,10 +2,10 @@
 use Rattle.std.specs.Prelude.{ℕ, ◌+◌, ◌-◌, ◌*◌, ◌≤◌, ◌<◌, ◌≡◌, Bool, true, false, List, [], ◌∷◌, get_or}
 use Rattle.std.proofs.Common.{sym, ◌∙◌, subst, true≢false, ⊎_elim, arith}
 use Rattle.grammar.specs.Derivation.{First}
-use Rattle.grammar.specs.theory.Sides.{first-by-rule}
-use Rattle.grammar.specs.theory.Tables.{Sized, Pushes}
+use Rattle.grammar.specs.Theory.Sides.{first_by_rule}
+use Rattle.grammar.specs.Theory.Tables.{Sized, Pushes}
 use Rattle.sets.specs.Bits.{member}
-use Rattle.moves.specs.Tests.{le-or-lt}
+use Rattle.moves.specs.Tests.{le_or_lt}
 
 -- What a lookup needs: a nonterminal with the token in its FIRST.
 pub record CanLookUp (S : Sized) (sides rows : List ℕ) (top t : ℕ) : Type 0 where
@@ -29,8 +29,8 @@ pub record Linking (S : Sized) (top t link : ℕ) : Type 0 where
   pub none : (q : ℕ) (β : List ℕ) → link ≤ q → S.grammar.rules q top β → First S.grammar.rules β t → ⊥
 
 module _ {S : Sized} {sides rows : List ℕ} {top t : ℕ} (can : CanLookUp S sides rows top t) where
-  pub linking-head : (link : ℕ) → link ≡ get_or rows top 0 → Linking S top t link
-  linking-head link f =
+  pub linking_head : (link : ℕ) → link ≡ get_or rows top 0 → Linking S top t link
+  linking_head link f =
       let h = can.pushes.head top can.low can.high in
       subst (λ l. Linking S top t l) (sym f)
       (record {
@@ -39,9 +39,9 @@ module _ {S : Sized} {sides rows : List ℕ} {top t : ℕ} (can : CanLookUp S si
         none = λ q β l r x. h.others q β l (can.pushes.counted q top β r) r t x;
       })
 
-  pub link-found : (link : ℕ) {b : Bool} → 0 < link → Linking S top t link → b ≡ member (get_or sides (link - 1) 0) t → b ≡ true
+  pub link_found : (link : ℕ) {b : Bool} → 0 < link → Linking S top t link → b ≡ member (get_or sides (link - 1) 0) t → b ≡ true
       → RuleFor S top t (link - 1)
-  link-found link l w e f =
+  link_found link l w e f =
       let n = w.named l in
       record {
         right = n.0;
@@ -49,9 +49,9 @@ module _ {S : Sized} {sides rows : List ℕ} {top t : ℕ} (can : CanLookUp S si
         first = (can.pushes.first (link - 1) top n.0 n.1 t can.token).0 (sym e ∙ f);
       }
 
-  pub linking-more : (link next : ℕ) {b : Bool} → 0 < link → Linking S top t link → b ≡ member (get_or sides (link - 1) 0) t → b ≡ false
+  pub linking_more : (link next : ℕ) {b : Bool} → 0 < link → Linking S top t link → b ≡ member (get_or sides (link - 1) 0) t → b ≡ false
       → next ≡ get_or rows (128 + 16 * (link - 1) + 9) 0 → Linking S top t next × (next < link)
-  linking-more link next l w e f g =
+  linking_more link next l w e f g =
       let n = w.named l in
       let h = (can.pushes.row (link - 1) top n.0 n.1).link in (
         subst (λ x. Linking S top t x) (sym g)
@@ -67,8 +67,8 @@ module _ {S : Sized} {sides rows : List ℕ} {top t : ℕ} (can : CanLookUp S si
                   let z : q ≡ link - 1 = omega arith in
                   not_in β (subst (λ y. S.grammar.rules y top β) z r) x)
                   (λ i. h.others q β m i r t x)
-                  (le-or-lt (link - 1) q))
-                  (le-or-lt link q);
+                  (le_or_lt (link - 1) q))
+                  (le_or_lt link q);
             }),
         omega (arith, g, h.within),
       )
@@ -77,9 +77,9 @@ module _ {S : Sized} {sides rows : List ℕ} {top t : ℕ} (can : CanLookUp S si
       not_in β r x = true≢false (sym ((can.pushes.first (link - 1) top β r t can.token).1 x) ∙ sym e ∙ f)
 
   -- A nonterminal with the token in its FIRST has such a rule.
-  pub link-some : (link : ℕ) → link ≤ 0 → Linking S top t link → ⊥
-  link-some link l w =
+  pub link_some : (link : ℕ) → link ≤ 0 → Linking S top t link → ⊥
+  link_some link l w =
       ⊎_elim
       (λ e. omega (arith, can.low, can.token, e))
       (λ r. w.none r.0 r.1 (omega arith) r.2 r.3)
-      (first-by-rule S.grammar.rules can.first)
+      (first_by_rule S.grammar.rules can.first)

@@ -4,30 +4,30 @@ ghost use Rattle.std.specs.Prelude.{true, ◌≡◌, ◌+◌, ◌-◌, ◌*◌, 
 ghost use Rattle.parser.specs.Lookup.{CanLookUp, RuleFor};
 ghost use Rattle.parser.specs.Expanding.{CanExpand, ExpandedOf};
 ghost use Rattle.parser.specs.Turns.{CanTurn, TurnOf};
-ghost use Rattle.parser.specs.Runs.{CanRun, RanOf, parsingOf};
-ghost use Rattle.parser.specs.Asking.{asksBy};
+ghost use Rattle.parser.specs.Runs.{CanRun, RanOf, parsing_of};
+ghost use Rattle.parser.specs.Asking.{asks_by};
 ghost use Rattle.parser.specs.Parses.{CheapWhere, Lent, SettledAs};
 ghost use Rattle.base.specs.Telling.{Tells};
 ghost use Rattle.grammar.specs.Run.{LogFits, Parsed, ParsedAsking};
 ghost use Rattle.grammar.specs.Words.{Shaped};
 ghost use Rattle.grammar.specs.Refusals.{Lowest};
-ghost use Rattle.grammar.specs.theory.Answers.{conditionsFrom10};
-ghost use Rattle.grammar.specs.theory.Tables.{sizedOf};
-ghost use Rattle.verdict.specs.Answer.{checkOf};
+ghost use Rattle.grammar.specs.Theory.Answers.{conditions_from10};
+ghost use Rattle.grammar.specs.Theory.Tables.{sized_of};
+ghost use Rattle.verdict.specs.Answer.{check_of};
 
 use correction::Corrected;
 use grammar::{Counts, Refusal};
 use moves::{Parser, Way};
 use verdict::Checked;
 
-// The answer: moves, edit records and rule numbers listed, or a refusal. `parsingOf` of specs/Runs.antt says what each stands for.
+// The answer: moves, edit records and rule numbers listed, or a refusal. `parsing_of` of specs/Runs.antt says what each stands for.
 #[derive(Drop)]
 pub enum Parsing {
     Parsed(Counts),
     Refused(Refusal),
 }
 
-// What a caller asks before the run, besides what the parser does: each is true where it holds or is not asked. `asksBy` of
+// What a caller asks before the run, besides what the parser does: each is true where it holds or is not asked. `asks_by` of
 // specs/Asking.antt says what they stand for.
 #[derive(Drop)]
 pub struct Asking {
@@ -48,7 +48,7 @@ enum Turned {
 // buffers; or gives the lowest refusal of 5 to 10 that applies, or the one of 11 and 12 that the run meets.
 pub fn parse(words: &[u16], log: &[u16], edits: &mut [u16], rules: &mut [u16]) -> Parsing
     ensures { Parsed words.now log.now (length edits.old) (length rules.old)
-        (parsingOf result) edits.new rules.new }
+        (parsing_of result) edits.new rules.new }
 {
     let nothing = Asking {
         timed: true,
@@ -65,8 +65,8 @@ pub fn parse_asking(
     edits: &mut [u16],
     rules: &mut [u16],
 ) -> Parsing
-    ensures { ParsedAsking (asksBy asking) words.now log.now (length edits.old)
-        (length rules.old) (parsingOf result) edits.new rules.new }
+    ensures { ParsedAsking (asks_by asking) words.now log.now (length edits.old)
+        (length rules.old) (parsing_of result) edits.new rules.new }
 {
     let mut prices = [0u32; 256];
     let mut sides = [0u64; 512];
@@ -85,8 +85,8 @@ pub fn parse_tabled(
     rules: &mut [u16],
 ) -> Parsing
     requires { Lent prices.old sides.old }
-    ensures parsed_asking { ParsedAsking (asksBy asking) words.now log.now (length edits.old)
-        (length rules.old) (parsingOf result) edits.new rules.new }
+    ensures parsed_asking { ParsedAsking (asks_by asking) words.now log.now (length edits.old)
+        (length rules.old) (parsing_of result) edits.new rules.new }
     ensures cheap_where { CheapWhere words.now prices.new sides.new result }
 {
     let answer = settle(words, log, asking, prices, sides, edits, rules);
@@ -115,7 +115,7 @@ fn settle(
     rules: &mut [u16],
 ) -> Parsing
     requires { Lent prices.old sides.old }
-    ensures settled_as { SettledAs (asksBy asking) words.now log.now (length edits.old)
+    ensures settled_as { SettledAs (asks_by asking) words.now log.now (length edits.old)
         (length rules.old) edits.new rules.new result }
     ensures cheap_where { CheapWhere words.now prices.new sides.new result }
 {
@@ -154,8 +154,8 @@ const LINK: usize = 9;
 
 // "Its one rule whose right side has t in FIRST": the rules of one left side are a list of links, each a rule's number plus 1.
 fn rule_for(words: &[u16], sides: &[u64], rows: &[u16], top: u16, t: u16) -> usize
-    requires { CanLookUp (sizedOf words.now) sides.now rows.now top t }
-    ensures { RuleFor (sizedOf words.now) top t result }
+    requires { CanLookUp (sized_of words.now) sides.now rows.now top t }
+    ensures { RuleFor (sized_of words.now) top t result }
 {
     let mut link = base::wide(rows[base::wide(top)]);
     while 0 < link {
@@ -179,8 +179,8 @@ fn expand(
     top: u16,
     t: u16,
 ) -> Turned
-    requires { CanExpand (sizedOf words.now) sides.now rows.now stack.old d top t }
-    ensures { ExpandedOf (sizedOf words.now) stack.old rules.old d t stack.new
+    requires { CanExpand (sized_of words.now) sides.now rows.now stack.old d top t }
+    ensures { ExpandedOf (sized_of words.now) stack.old rules.old d t stack.new
         rules.new result }
 {
     let at = d.height - 1;
@@ -213,9 +213,9 @@ fn turn(
     rules: &mut [u16],
     p: Parser,
 ) -> Turned
-    requires { CanTurn (sizedOf words.now) log.now masks.now prices.now sides.now rows.now stack.old edits.old
+    requires { CanTurn (sized_of words.now) log.now masks.now prices.now sides.now rows.now stack.old edits.old
         rules.old p }
-    ensures { TurnOf (sizedOf words.now) log.now (length edits.old)
+    ensures { TurnOf (sized_of words.now) log.now (length edits.old)
         (length rules.old) p.moves stack.new edits.new rules.new result }
 {
     let t = correction::token_at(log, p.place);
@@ -245,8 +245,8 @@ fn run(
     edits: &mut [u16],
     rules: &mut [u16],
 ) -> Parsing
-    requires { CanRun (sizedOf words.now) log.now masks.now prices.now sides.now rows.now stack.old }
-    ensures { RanOf (sizedOf words.now) log.now (length edits.old)
+    requires { CanRun (sized_of words.now) log.now masks.now prices.now sides.now rows.now stack.old }
+    ensures { RanOf (sized_of words.now) log.now (length edits.old)
         (length rules.old) edits.new rules.new result }
 {
     stack[0] = 0;
@@ -275,7 +275,7 @@ fn run(
 // The conditions behind those of the check, in their order: 10 and 16.
 fn admits(words: &[u16], log: &[u16], asking: Asking) -> Checked
     requires { Shaped words.now }
-    ensures { Lowest (conditionsFrom10 (asksBy asking) words.now log.now) (checkOf result) }
+    ensures { Lowest (conditions_from10 (asks_by asking) words.now log.now) (check_of result) }
 {
     if log_fits(words, log, asking.timed) {} else {
         return Checked::Refused(Refusal::BadLog);

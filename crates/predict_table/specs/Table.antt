@@ -10,14 +10,14 @@ use Rattle.grammar.specs.declared.Entry.{Entry}
 use Rattle.grammar.specs.declared.Entry.TheVariants.{Rule, Drop, Error}
 
 -- The entry that a word stands for: 0 is error, 1 is drop, any other the rule of the number two less.
-unfoldable pub entryIn : ℕ → Entry
-entryIn zero = Error
-entryIn (suc zero) = Drop
-entryIn (suc (suc p)) = Rule p
+unfoldable pub entry_in : ℕ → Entry
+entry_in zero = Error
+entry_in (suc zero) = Drop
+entry_in (suc (suc p)) = Rule p
 
 -- The entry of nonterminal A under token t.
 unfoldable pub entry_at : List ℕ → ℕ → ℕ → Entry
-entry_at table A t = entryIn (get_or table (64 * (A - 64) + t) 0)
+entry_at table A t = entry_in (get_or table (64 * (A - 64) + t) 0)
 
 -- The table of a grammar with N nonterminals.
 pub record TableOf (G : Grammar) (N : ℕ) (table : List ℕ) : Type 0 where

@@ -4,8 +4,8 @@
 ghost use Prim.Native.Nat.{◌<◌, ◌≤◌};
 ghost use mathlib.Core.Path.{◌≡◌};
 ghost use lib.ListN.{length};
-ghost use Rattle.grammar.specs.Words.{nonterminalCount, ruleCount};
-ghost use Rattle.grammar.specs.Grammar.{grammarOf};
+ghost use Rattle.grammar.specs.Words.{nonterminal_count, rule_count};
+ghost use Rattle.grammar.specs.Grammar.{grammar_of};
 ghost use Rattle.base.specs.Blank.{Blank};
 ghost use Rattle.firsts.specs.Asked.{Asked};
 ghost use Rattle.firsts.specs.Masks.{FirstsOf};
@@ -41,7 +41,7 @@ pub fn fill(words: &[u16], places: &[u16], null: u64, firsts: &[u64], table: &mu
     requires firsts_of { FirstsOf words.now firsts.now }
     requires reached { Reached words.now }
     requires blank { Blank 4096 table.old }
-    ensures { TableOf (grammarOf words.now) (nonterminalCount words.now) table.new }
+    ensures { TableOf (grammar_of words.now) (nonterminal_count words.now) table.new }
 {
     let mut follows = [0u64; 64];
     follows::follows(words, places, null, firsts, &mut follows);
@@ -53,7 +53,7 @@ pub fn fill(words: &[u16], places: &[u16], null: u64, firsts: &[u64], table: &mu
 fn enter_drops(words: &[u16], null: u64, follows: &[u64], table: &mut [u16])
     requires drops_from { DropsFrom words.now null follows.now }
     requires filling { Filling words.now 0 0 table.old }
-    ensures { Filling words.now (nonterminalCount words.now) 0 table.new }
+    ensures { Filling words.now (nonterminal_count words.now) 0 table.new }
 {
     let count = shape::nonterminal_count(words);
     let mut k = 0;
@@ -69,8 +69,8 @@ fn enter_drops(words: &[u16], null: u64, follows: &[u64], table: &mut [u16])
 fn enter_rules(words: &[u16], places: &[u16], null: u64, firsts: &[u64], table: &mut [u16])
     requires asked { Asked words.now places.now null firsts.now }
     requires firsts_of { FirstsOf words.now firsts.now }
-    requires filling { Filling words.now (nonterminalCount words.now) 0 table.old }
-    ensures { Filling words.now (nonterminalCount words.now) (ruleCount words.now)
+    requires filling { Filling words.now (nonterminal_count words.now) 0 table.old }
+    ensures { Filling words.now (nonterminal_count words.now) (rule_count words.now)
         table.new }
 {
     let count = shape::rule_count(words);

@@ -1,8 +1,8 @@
 // The predict test, refusal 9: no two rules of one nonterminal share a predict token.
 ghost use Rattle.std.specs.Prelude.{◌<◌};
-ghost use Rattle.grammar.specs.Words.{ruleCount};
+ghost use Rattle.grammar.specs.Words.{rule_count};
 ghost use Rattle.grammar.specs.Derivation.{NoneShared};
-ghost use Rattle.grammar.specs.Grammar.{RuleOf, startOverEnd};
+ghost use Rattle.grammar.specs.Grammar.{RuleOf, start_over_end};
 ghost use Rattle.base.specs.Telling.{Tells};
 ghost use Rattle.base.specs.Blank.{Blank};
 ghost use Rattle.predicts.specs.Predicts.{Known, PredictMask};
@@ -19,7 +19,7 @@ pub fn none_shared(
 ) -> bool
     requires known { Known words.now places.now null firsts.now follows.now }
     requires blank { Blank 64 seen.old }
-    ensures { Tells (NoneShared (RuleOf words.now) startOverEnd) result }
+    ensures { Tells (NoneShared (RuleOf words.now) start_over_end) result }
 {
     let count = shape::rule_count(words);
     let mut p = 0;
@@ -45,7 +45,7 @@ fn predict(
     p: usize,
 ) -> u64
     requires known { Known words.now places.now null firsts.now follows.now }
-    requires p_bound { p < ruleCount words.now }
+    requires p_bound { p < rule_count words.now }
     ensures { PredictMask words.now p result }
 {
     let k = shape::left_of(words, places, p);

@@ -9,5 +9,5 @@ abbrev pub InputFits : List ℕ → Input → Type 0
 InputFits room (Kept n) = n ≤ length room
 InputFits room Failed = Unit {0}
 
-pub kept-fits : (room : List ℕ) (input : Input) (n : ℕ) → InputFits room input → input ≡ Kept n → n ≤ length room
-kept-fits room input n f e = subst (λ (i : Input). InputFits room i) e f
+pub kept_fits : (room : List ℕ) (input : Input) (n : ℕ) → InputFits room input → input ≡ Kept n → n ≤ length room
+kept_fits room input n f e = subst (λ (i : Input). InputFits room i) e f

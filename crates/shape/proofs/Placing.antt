@@ -12,15 +12,15 @@ use borrow.Author.Tests.{eqb-true, eqb-false}
 use lib.Dec.{eqb}
 use lib.ListN.{length, get_or, set, length-set}
 use lib.Seq.{get_or-set_same, get_or-set_other}
-use Rattle.grammar.specs.Words.{word, headerSize, terminalCount, ruleCount, rightSize, rulePlace, Shaped}
+use Rattle.grammar.specs.Words.{word, header_size, terminal_count, rule_count, right_size, rule_place, Shaped}
 use Rattle.base.specs.Telling.{Tells}
-use Rattle.shape.specs.Parts.{Decides, HeaderRight, RuleRight, RuleThere, RulesRight, SymbolsRight, rule-of}
-use Rattle.shape.specs.Inside.{place-first, place-next, places-small}
+use Rattle.shape.specs.Parts.{Decides, HeaderRight, RuleRight, RuleThere, RulesRight, SymbolsRight, rule_of_lem}
+use Rattle.shape.specs.Inside.{place_first, place_next, places_small}
 
 -- A rule, by its symbols: the last test of `rule_right`.
-pub rule-tells : (ws : List ℕ) (at T N size : ℕ) {r : Bool} → size ≡ word ws (at + 1) → word ws at < N → size ≤ 8
+pub rule_tells : (ws : List ℕ) (at T N size : ℕ) {r : Bool} → size ≡ word ws (at + 1) → word ws at < N → size ≤ 8
     → at + 2 + size ≤ length ws → Tells (SymbolsRight ws (at + 2) size T N) r → Tells (RuleRight ws at T N) r
-rule-tells ws at T N size e left small inside t =
+rule_tells ws at T N size e left small inside t =
     record {
       yes = λ y.
           record {
@@ -38,19 +38,19 @@ shut_out wrong = record { yes = λ e. absurd (false≢true e); no = λ _ q. wron
 
 pub record Passed (ws places : List ℕ) (at p : ℕ) : Type 0 where
   pub counted : p ≤ word ws 2
-  pub stands : at ≡ rulePlace ws p
+  pub stands : at ≡ rule_place ws p
   pub inside : at ≤ length ws
   pub room : 256 ≤ length places
-  pub rules : (q : ℕ) → q < p → RuleThere ws (rulePlace ws q)
-  pub exact : (q : ℕ) → q < p → get_or places q 0 ≡ rulePlace ws q
+  pub rules : (q : ℕ) → q < p → RuleThere ws (rule_place ws q)
+  pub exact : (q : ℕ) → q < p → get_or places q 0 ≡ rule_place ws q
 
 module _ (ws : List ℕ) (header : HeaderRight ws) where
-  pub begun : (places : List ℕ) (h w : ℕ) → h ≡ headerSize ws → w ≡ terminalCount ws → 256 ≤ length places
+  pub begun : (places : List ℕ) (h w : ℕ) → h ≡ header_size ws → w ≡ terminal_count ws → 256 ≤ length places
       → Passed ws places (h + 2 * w) 0
   begun places h w e f room =
       record {
         counted = omega arith;
-        stands = omega (arith, place-first ws);
+        stands = omega (arith, place_first ws);
         inside = omega (arith, header.end.inside);
         room = room;
         rules = λ q h. absurd (omega arith);
@@ -60,47 +60,47 @@ module _ (ws : List ℕ) (header : HeaderRight ws) where
   module _ (places : List ℕ) (at p : ℕ) (passed : Passed ws places at p) where
     -- The place fits a word.
     pub fits_word : p < word ws 2 → at < 65536
-    unfolding rightSize
+    unfolding right_size
     fits_word h =
         omega
-        (arith, places-small ws header.terminals.to p (λ q l. (passed.rules q l).size), header.rules.to, passed.stands)
+        (arith, places_small ws header.terminals.to p (λ q l. (passed.rules q l).size), header.rules.to, passed.stands)
 
-    pub more : {T : ℕ} (w : ℕ) → w ≡ word ws (at + 1) → p < word ws 2 → T ≡ terminalCount ws → RuleRight ws at T (word ws 1)
+    pub more : {T : ℕ} (w : ℕ) → w ≡ word ws (at + 1) → p < word ws 2 → T ≡ terminal_count ws → RuleRight ws at T (word ws 1)
         → Passed ws (set places p at) (at + 2 + w) (p + 1)
-    unfolding rightSize
+    unfolding right_size
     more w e h f right =
         let r : RuleThere ws at = subst (λ t. RuleRight ws at t (word ws 1)) f right in
-        let size : word ws (at + 1) ≡ word ws (rulePlace ws p + 1) = ap (λ k. word ws (k + 1)) passed.stands in
+        let size : word ws (at + 1) ≡ word ws (rule_place ws p + 1) = ap (λ k. word ws (k + 1)) passed.stands in
         record {
           counted = omega arith;
-          stands = omega (arith, place-next ws p, passed.stands) ∙ ap (rulePlace ws) (sym (add-one p));
+          stands = omega (arith, place_next ws p, passed.stands) ∙ ap (rule_place ws) (sym (add-one p));
           inside = omega (arith, r.inside);
           room = omega (arith, length-set places p at, passed.room);
-          rules = below_more (λ q. RuleThere ws (rulePlace ws q)) p passed.rules (subst (RuleThere ws) passed.stands r);
-          exact = below_more (λ q. get_or (set places p at) q 0 ≡ rulePlace ws q) p
+          rules = below_more (λ q. RuleThere ws (rule_place ws q)) p passed.rules (subst (RuleThere ws) passed.stands r);
+          exact = below_more (λ q. get_or (set places p at) q 0 ≡ rule_place ws q) p
               (λ q l. get_or-set_other places p q at 0 (λ same. omega arith) ∙ passed.exact q l)
               (get_or-set_same places p at 0 (omega (arith, passed.room, header.rules.to)) ∙ passed.stands);
         }
 
-    pub refused : {P : Type 0} {T : ℕ} → p < word ws 2 → T ≡ terminalCount ws → (RuleRight ws at T (word ws 1) → ⊥)
+    pub refused : {P : Type 0} {T : ℕ} → p < word ws 2 → T ≡ terminal_count ws → (RuleRight ws at T (word ws 1) → ⊥)
         → Decides P (Shaped ws) false
     refused h f wrong =
         shut_out
         (λ s.
         wrong
-        (subst (λ t. RuleRight ws at t (word ws 1)) (sym f) (subst (RuleThere ws) (sym passed.stands) (rule-of ws s p h))))
+        (subst (λ t. RuleRight ws at t (word ws 1)) (sym f) (subst (RuleThere ws) (sym passed.stands) (rule_of_lem ws s p h))))
 
     pub over : word ws 2 ≤ p → Decides (RulesRight ws places) (Shaped ws) (eqb at (length ws))
-    unfolding ruleCount
+    unfolding rule_count
     over h =
         let all : p ≡ word ws 2 = omega (arith, passed.counted) in
         record {
           yes = λ e.
               record {
                 rules = λ q l. passed.rules q (omega arith);
-                whole = ap (rulePlace ws) (sym all) ∙ sym passed.stands ∙ eqb-true at (length ws) e;
+                whole = ap (rule_place ws) (sym all) ∙ sym passed.stands ∙ eqb-true at (length ws) e;
                 long = omega (arith, header.rules.to, passed.room);
                 exact = λ q l. passed.exact q (omega arith);
               };
-          no = λ e s. eqb-false at (length ws) e (passed.stands ∙ ap (rulePlace ws) all ∙ s.whole);
+          no = λ e s. eqb-false at (length ws) e (passed.stands ∙ ap (rule_place ws) all ∙ s.whole);
         }

@@ -9,20 +9,20 @@ ghost use Rattle.grammar.specs.Words.{
   Shaped,
   UnitOne,
   closing,
-  headerSize,
-  insertCost,
-  nonterminalCount,
+  header_size,
+  insert_cost,
+  nonterminal_count,
   opening,
   reliability,
-  restartMark,
-  rightSide,
-  ruleCount,
-  rulePlace,
-  terminalCount,
+  restart_mark,
+  right_side,
+  rule_count,
+  rule_place,
+  terminal_count,
   word,
 };
 ghost use Rattle.shape.specs.Ready.{Ready};
-ghost use Rattle.shape.specs.Accessors.{LeftOf, SizeOf, SymbolAt, WordsOf, headerWords, terminalWords};
+ghost use Rattle.shape.specs.Accessors.{LeftOf, SizeOf, SymbolAt, WordsOf, header_words, terminal_words};
 ghost use Rattle.shape.specs.Parts.{
   Between,
   Decides,
@@ -107,7 +107,7 @@ fn end_right(words: &[u16], t: u16) -> bool
 // How many words the header has: the terminals' words begin behind it.
 fn header_size(words: &[u16]) -> usize
     requires { 1 ≤ length words.now }
-    ensures { result ≡ headerSize words.now }
+    ensures { result ≡ header_size words.now }
 {
     if LONG < words[0] { 7 } else { 6 }
 }
@@ -115,7 +115,7 @@ fn header_size(words: &[u16]) -> usize
 // T.
 fn terminals(words: &[u16]) -> u16
     requires { 1 ≤ length words.now }
-    ensures { result ≡ terminalCount words.now }
+    ensures { result ≡ terminal_count words.now }
 {
     let word = words[0];
     if LONG < word { word - LONG } else { word }
@@ -124,7 +124,7 @@ fn terminals(words: &[u16]) -> u16
 // The restart mark, 0 where there is none.
 fn restart_word(words: &[u16]) -> u16
     requires { 7 ≤ length words.now }
-    ensures { result ≡ restartMark words.now }
+    ensures { result ≡ restart_mark words.now }
 {
     if LONG < words[0] { words[6] } else { 0 }
 }
@@ -286,7 +286,7 @@ pub fn unit_one(words: &[u16]) -> bool
 // T, terminals.
 pub fn terminal_count(words: &[u16]) -> usize
     requires { Shaped words.now }
-    ensures { result ≡ terminalCount words.now }
+    ensures { result ≡ terminal_count words.now }
 {
     base::wide(terminals(words))
 }
@@ -294,7 +294,7 @@ pub fn terminal_count(words: &[u16]) -> usize
 // N, nonterminals.
 pub fn nonterminal_count(words: &[u16]) -> usize
     requires { Shaped words.now }
-    ensures { result ≡ nonterminalCount words.now }
+    ensures { result ≡ nonterminal_count words.now }
 {
     base::wide(header(words, 1))
 }
@@ -302,7 +302,7 @@ pub fn nonterminal_count(words: &[u16]) -> usize
 // P, rules.
 pub fn rule_count(words: &[u16]) -> usize
     requires { Shaped words.now }
-    ensures { result ≡ ruleCount words.now }
+    ensures { result ≡ rule_count words.now }
 {
     base::wide(header(words, 2))
 }
@@ -326,7 +326,7 @@ pub fn closing(words: &[u16]) -> u16
 // The restart mark, 0 where there is none.
 pub fn restart(words: &[u16]) -> u16
     requires { Shaped words.now }
-    ensures { result ≡ restartMark words.now }
+    ensures { result ≡ restart_mark words.now }
 {
     restart_word(words)
 }
@@ -335,7 +335,7 @@ pub fn restart(words: &[u16]) -> u16
 fn header(words: &[u16], i: usize) -> u16
     requires shaped { Shaped words.now }
     requires i_bound { i < 6 }
-    ensures { result ≡ get_or (headerWords words.now) i 0 }
+    ensures { result ≡ get_or (header_words words.now) i 0 }
 {
     words[i]
 }
@@ -343,7 +343,7 @@ fn header(words: &[u16], i: usize) -> u16
 // Where the terminals' words begin. Whoever goes through all of them asks once.
 pub fn terminals_at(words: &[u16]) -> usize
     requires { Shaped words.now }
-    ensures { result ≡ headerSize words.now }
+    ensures { result ≡ header_size words.now }
 {
     header_size(words)
 }
@@ -351,7 +351,7 @@ pub fn terminals_at(words: &[u16]) -> usize
 // The insert cost of terminal t.
 pub fn insert_cost(words: &[u16], from: usize, t: usize) -> u16
     requires { WordsOf words.now from t }
-    ensures { result ≡ insertCost words.now t }
+    ensures { result ≡ insert_cost words.now t }
 {
     terminal_word(words, from, t, 0)
 }
@@ -368,7 +368,7 @@ pub fn reliability_of(words: &[u16], from: usize, t: usize) -> u16
 fn terminal_word(words: &[u16], from: usize, t: usize, i: usize) -> u16
     requires words_of { WordsOf words.now from t }
     requires i_bound { i < 2 }
-    ensures { result ≡ get_or (terminalWords words.now t) i 0 }
+    ensures { result ≡ get_or (terminal_words words.now t) i 0 }
 {
     words[from + 2 * t + i]
 }
@@ -376,9 +376,9 @@ fn terminal_word(words: &[u16], from: usize, t: usize, i: usize) -> u16
 // Word i of rule p: its left side, its length, its symbols.
 fn rule_word(words: &[u16], places: &[u16], p: usize, i: usize) -> u16
     requires ready { Ready words.now places.now }
-    requires p_bound { p < ruleCount words.now }
-    requires i_bound { i < 2 + length (rightSide words.now p) }
-    ensures { result ≡ word words.now (rulePlace words.now p + i) }
+    requires p_bound { p < rule_count words.now }
+    requires i_bound { i < 2 + length (right_side words.now p) }
+    ensures { result ≡ word words.now (rule_place words.now p + i) }
 {
     words[base::wide(places[p]) + i]
 }
@@ -386,7 +386,7 @@ fn rule_word(words: &[u16], places: &[u16], p: usize, i: usize) -> u16
 // The number of rule p's left side, from 0: the symbol less 64.
 pub fn left_of(words: &[u16], places: &[u16], p: usize) -> u16
     requires ready { Ready words.now places.now }
-    requires p_bound { p < ruleCount words.now }
+    requires p_bound { p < rule_count words.now }
     ensures { LeftOf words.now p result }
 {
     rule_word(words, places, p, 0)
@@ -395,7 +395,7 @@ pub fn left_of(words: &[u16], places: &[u16], p: usize) -> u16
 // How many symbols rule p's right side has.
 pub fn size_of(words: &[u16], places: &[u16], p: usize) -> usize
     requires ready { Ready words.now places.now }
-    requires p_bound { p < ruleCount words.now }
+    requires p_bound { p < rule_count words.now }
     ensures { SizeOf words.now p result }
 {
     base::wide(rule_word(words, places, p, 1))
@@ -404,8 +404,8 @@ pub fn size_of(words: &[u16], places: &[u16], p: usize) -> usize
 // Symbol i of rule p's right side.
 pub fn symbol_at(words: &[u16], places: &[u16], p: usize, i: usize) -> u16
     requires ready { Ready words.now places.now }
-    requires p_bound { p < ruleCount words.now }
-    requires i_in_bounds { i < length (rightSide words.now p) }
+    requires p_bound { p < rule_count words.now }
+    requires i_in_bounds { i < length (right_side words.now p) }
     ensures { SymbolAt words.now p i result }
 {
     rule_word(words, places, p, 2 + i)

@@ -4,14 +4,14 @@ use Rattle.std.proofs.Common.{arith, inl}
 use Rattle.grammar.specs.Derivation.{All, nothing, also}
 use Rattle.grammar.specs.Listing.{ascii}
 use Rattle.spelling.specs.Text.{Blank, Digit, value_of, Number, Ended, Numbers, Spells, Stops}
-use Rattle.spelling.specs.Texts.{blank-last, digits-unbroken}
+use Rattle.spelling.specs.Texts.{blank_last, digits_unbroken}
 
 digit : (c : ℕ) → 48 ≤ c → c ≤ 57 → Digit c
 digit c l h = record { low = l; high = h }
 
-two-words : Spells (ascii "7 042") (7 ∷ 42 ∷ [])
+two_words : Spells (ascii "7 042") (7 ∷ 42 ∷ [])
 unfolding ascii value_of
-two-words =
+two_words =
     Numbers.number {word = ascii "7"} refl seven (Ended.blank (inl refl))
     (Numbers.blank (inl refl) (Numbers.number {word = ascii "042"} refl answer Ended.end (Numbers.none refl)))
   where
@@ -39,7 +39,7 @@ too_large =
         rest = [];
         whole = refl;
         some = omega arith;
-        unbroken = digits-unbroken (also six (also five (also five (also three (also six nothing)))));
+        unbroken = digits_unbroken (also six (also five (also five (also three (also six nothing)))));
         ended = Ended.end;
         none = λ n is. omega (arith, is.value, is.small);
       };
@@ -54,9 +54,9 @@ too_large =
     three : Digit 51
     three = digit 51 (omega arith) (omega arith)
 
-no-comma : All Digit (ascii "1,2") → ⊥
+no_comma : All Digit (ascii "1,2") → ⊥
 unfolding ascii
-no-comma (also _ (also d _)) = omega (arith, d.low)
+no_comma (also _ (also d _)) = omega (arith, d.low)
 
 one_word : Stops (ascii "1,2") []
 unfolding ascii
@@ -71,9 +71,9 @@ one_word =
         some = omega arith;
         unbroken = also (unblank 49 (omega arith)) (also (unblank 44 (omega arith)) (also (unblank 50 (omega arith)) nothing));
         ended = Ended.end;
-        none = λ n is. no-comma is.digits;
+        none = λ n is. no_comma is.digits;
       };
     }
   where
     unblank : (c : ℕ) → 32 < c → Blank c → ⊥
-    unblank c l b = let last = blank-last (λ e. omega arith) (λ e. omega arith) (λ e. omega arith) b in omega arith
+    unblank c l b = let last = blank_last (λ e. omega arith) (λ e. omega arith) (λ e. omega arith) b in omega arith

@@ -1,12 +1,12 @@
 -- What one byte more does to what is known of a text.
---     passed-blank, passed-number                 a blank behind a passed text, and behind a number
---     passed-spells, open-spells, halted-stops    the text ends there
---     row_more, row-stops                         a byte that is not blank: the word is a number still, or will be none
+--     passed_blank, passed_number                 a blank behind a passed text, and behind a number
+--     passed_spells, open_spells, halted_stops    the text ends there
+--     row_more, row_stops                         a byte that is not blank: the word is a number still, or will be none
 use Rattle.std.specs.Prelude.{ℕ, suc, ◌+◌, ◌-◌, ◌*◌, ◌^◌, ◌≤◌, ◌<◌, ◌≡◌, refl, List, [], ◌∷◌, ◌++◌, ◌⊎◌, length}
 use Rattle.std.proofs.Common.{mul_assoc, pow-suc, arith, sym, ap, subst, ◌∙◌, append_assoc, append-nil, inl, inr, length-append}
 use Rattle.base.specs.Choices.{same_or}
 use Rattle.grammar.specs.Derivation.{All, nothing, also}
-use Rattle.grammar.specs.theory.Closed.{all_append, all_rest}
+use Rattle.grammar.specs.Theory.Closed.{all_append, all_rest}
 use Rattle.spelling.specs.Text.{Blank, Digit, value_of, Number, Ended, Numbers, Spells, Stops}
 use Rattle.spelling.specs.Text.Ended.{end, blank as ended-blank}
 use Rattle.spelling.specs.Text.Numbers.{none, blank, number}
@@ -14,65 +14,65 @@ use Rattle.spelling.specs.Answer.{Passed, Open, Halted}
 
 -- ---- Numbers, and then further ones
 
-numbers-then : {text ns rest ms behind : List ℕ} → Numbers text ns rest → Numbers rest ms behind → Numbers text (ns ++ ms) behind
-numbers-then {ms = ms} {behind = behind} (none e) more = subst (λ (t : List ℕ). Numbers t ms behind) (sym e) more
-numbers-then (blank b p) more = blank b (numbers-then p more)
-numbers-then (number e w d p) more = number e w d (numbers-then p more)
+numbers_then : {text ns rest ms behind : List ℕ} → Numbers text ns rest → Numbers rest ms behind → Numbers text (ns ++ ms) behind
+numbers_then {ms = ms} {behind = behind} (none e) more = subst (λ (t : List ℕ). Numbers t ms behind) (sym e) more
+numbers_then (blank b p) more = blank b (numbers_then p more)
+numbers_then (number e w d p) more = number e w d (numbers_then p more)
 
-pub passed-nothing : Passed [] []
-passed-nothing = record { before = λ more. none refl }
+pub passed_nothing : Passed [] []
+passed_nothing = record { before = λ more. none refl }
 
-pub passed-blank : {text ns : List ℕ} {c : ℕ} → Passed text ns → Blank c → Passed (text ++ (c ∷ [])) ns
-passed-blank {text} {ns} {c} p b = record { before = longer }
+pub passed_blank : {text ns : List ℕ} {c : ℕ} → Passed text ns → Blank c → Passed (text ++ (c ∷ [])) ns
+passed_blank {text} {ns} {c} p b = record { before = longer }
   where
     longer : (more : List ℕ) → Numbers ((text ++ (c ∷ [])) ++ more) ns more
     longer more =
-        let read : Numbers (text ++ (c ∷ more)) (ns ++ []) more = numbers-then (p.before (c ∷ more)) (blank b (none refl)) in
+        let read : Numbers (text ++ (c ∷ more)) (ns ++ []) more = numbers_then (p.before (c ∷ more)) (blank b (none refl)) in
         rw append_assoc (rw append-nil at read)
 
-pub passed-number : {text ns : List ℕ} {v c : ℕ} → Open text ns v → Blank c → Passed (text ++ (c ∷ [])) (ns ++ (v ∷ []))
-passed-number {text} {ns} {v} {c} o b = record { before = longer }
+pub passed_number : {text ns : List ℕ} {v c : ℕ} → Open text ns v → Blank c → Passed (text ++ (c ∷ [])) (ns ++ (v ∷ []))
+passed_number {text} {ns} {v} {c} o b = record { before = longer }
   where
     longer : (more : List ℕ) → Numbers ((text ++ (c ∷ [])) ++ more) (ns ++ (v ∷ [])) more
     longer more =
         let whole : (text ++ (c ∷ [])) ++ more ≡ o.front ++ (o.word ++ (c ∷ more)) =
         ap (λ (t : List ℕ). (t ++ (c ∷ [])) ++ more) o.whole ∙ simp append_assoc in
         subst (λ (t : List ℕ). Numbers t (ns ++ (v ∷ [])) more) (sym whole)
-        (numbers-then (o.passed.before (o.word ++ (c ∷ more)))
+        (numbers_then (o.passed.before (o.word ++ (c ∷ more)))
         (number refl o.number (ended-blank b) (blank b (none refl))))
 
-pub passed-spells : {text ns : List ℕ} → Passed text ns → Spells text ns
-passed-spells {text} {ns} p = rw append-nil at (p.before [])
+pub passed_spells : {text ns : List ℕ} → Passed text ns → Spells text ns
+passed_spells {text} {ns} p = rw append-nil at (p.before [])
 
-pub open-spells : {text ns : List ℕ} {v : ℕ} → Open text ns v → Spells text (ns ++ (v ∷ []))
-open-spells {text} {ns} {v} o =
+pub open_spells : {text ns : List ℕ} {v : ℕ} → Open text ns v → Spells text (ns ++ (v ∷ []))
+open_spells {text} {ns} {v} o =
     subst (λ (t : List ℕ). Numbers t (ns ++ (v ∷ [])) []) (sym o.whole)
-    (numbers-then (o.passed.before o.word) (number (sym (append-nil o.word)) o.number end (none refl)))
+    (numbers_then (o.passed.before o.word) (number (sym (append-nil o.word)) o.number end (none refl)))
 
-pub halted-stops : {text ns : List ℕ} → Halted text ns → Stops text ns
-halted-stops h = rw append-nil at (h.before [])
+pub halted_stops : {text ns : List ℕ} → Halted text ns → Stops text ns
+halted_stops h = rw append-nil at (h.before [])
 
 -- ---- The value of digits
 
 size : (word : List ℕ) (c : ℕ) → length (word ++ (c ∷ [])) ≡ suc (length word)
 size word c = simp length-append (omega arith)
 
-value-more : (word : List ℕ) (c : ℕ) → value_of (word ++ (c ∷ [])) ≡ 10 * value_of word + (c - 48)
+value_more : (word : List ℕ) (c : ℕ) → value_of (word ++ (c ∷ [])) ≡ 10 * value_of word + (c - 48)
 unfolding value_of
-value-more [] c = omega arith
-value-more (d ∷ word) c =
+value_more [] c = omega arith
+value_more (d ∷ word) c =
     let power : ℕ = 10 ^ length word in
     let longer : 10 ^ length (word ++ (c ∷ [])) ≡ power * 10 = ap (λ (n : ℕ). 10 ^ n) (size word c) ∙ pow-suc 10 (length word) in
     let first : (d - 48) * 10 ^ length (word ++ (c ∷ [])) ≡ (d - 48) * power * 10 =
     ap (λ (p : ℕ). (d - 48) * p) longer ∙ sym (mul_assoc (d - 48) power 10) in
-    omega (arith, first, value-more word c)
+    omega (arith, first, value_more word c)
 
 value_grows : (word more : List ℕ) → value_of word ≤ value_of (word ++ more)
 value_grows word [] = rw append-nil (omega arith)
 value_grows word (c ∷ more) =
     let next = value_grows (word ++ (c ∷ [])) more in
     let same : (word ++ (c ∷ [])) ++ more ≡ word ++ (c ∷ more) = append_assoc word (c ∷ []) more in
-    omega (arith, value-more word c, next, ap value_of same)
+    omega (arith, value_more word c, next, ap value_of same)
 
 -- ---- A word that is begun, or not yet
 
@@ -85,9 +85,9 @@ pub record Row (text ns : List ℕ) (v : ℕ) : Type 0 where
   pub digits : All Digit word
   pub value : v ≡ value_of word
 
-pub passed-row : {text ns : List ℕ} → Passed text ns → Row text ns 0
+pub passed_row : {text ns : List ℕ} → Passed text ns → Row text ns 0
 unfolding value_of
-passed-row {text} {ns} p =
+passed_row {text} {ns} p =
     record { front = text; word = []; whole = sym (append-nil text); passed = p; digits = nothing; value = refl }
 
 pub open_row : {text ns : List ℕ} {v : ℕ} → Open text ns v → Row text ns v
@@ -102,19 +102,19 @@ open_row o =
     }
 
 -- A blank that is none of the first three is the last.
-pub blank-last : {c : ℕ} → (c ≡ 32 → ⊥) → (c ≡ 9 → ⊥) → (c ≡ 10 → ⊥) → Blank c → c ≡ 13
-blank-last p q r (inl e) = absurd (p e)
-blank-last p q r (inr (inl e)) = absurd (q e)
-blank-last p q r (inr (inr (inl e))) = absurd (r e)
-blank-last p q r (inr (inr (inr e))) = e
+pub blank_last : {c : ℕ} → (c ≡ 32 → ⊥) → (c ≡ 9 → ⊥) → (c ≡ 10 → ⊥) → Blank c → c ≡ 13
+blank_last p q r (inl e) = absurd (p e)
+blank_last p q r (inr (inl e)) = absurd (q e)
+blank_last p q r (inr (inr (inl e))) = absurd (r e)
+blank_last p q r (inr (inr (inr e))) = e
 
 -- A digit is no blank.
-pub digit-unblank : {c : ℕ} → Digit c → Blank c → ⊥
-digit-unblank d b = let last = blank-last (λ e. omega arith) (λ e. omega arith) (λ e. omega arith) b in omega arith
+pub digit_unblank : {c : ℕ} → Digit c → Blank c → ⊥
+digit_unblank d b = let last = blank_last (λ e. omega arith) (λ e. omega arith) (λ e. omega arith) b in omega arith
 
-pub digits-unbroken : {word : List ℕ} → All Digit word → All (λ c. Blank c → ⊥) word
-digits-unbroken nothing = nothing
-digits-unbroken (also d ds) = also (digit-unblank d) (digits-unbroken ds)
+pub digits_unbroken : {word : List ℕ} → All Digit word → All (λ c. Blank c → ⊥) word
+digits_unbroken nothing = nothing
+digits_unbroken (also d ds) = also (digit_unblank d) (digits_unbroken ds)
 
 -- The run of bytes that are not blank in which a text begins.
 record RunOf (text : List ℕ) : Type 0 where
@@ -124,8 +124,8 @@ record RunOf (text : List ℕ) : Type 0 where
   unbroken : All (λ c. Blank c → ⊥) run
   ended : Ended rest
 
-blank-or-not : (c : ℕ) → Blank c ⊎ (Blank c → ⊥)
-blank-or-not c = found (same_or c 32) (same_or c 9) (same_or c 10) (same_or c 13)
+blank_or_not : (c : ℕ) → Blank c ⊎ (Blank c → ⊥)
+blank_or_not c = found (same_or c 32) (same_or c 9) (same_or c 10) (same_or c 13)
   where
     found : (c ≡ 32) ⊎ (c ≡ 32 → ⊥) → (c ≡ 9) ⊎ (c ≡ 9 → ⊥) → (c ≡ 10) ⊎ (c ≡ 10 → ⊥) → (c ≡ 13) ⊎ (c ≡ 13 → ⊥)
         → Blank c ⊎ (Blank c → ⊥)
@@ -133,11 +133,11 @@ blank-or-not c = found (same_or c 32) (same_or c 9) (same_or c 10) (same_or c 13
     found (inr _) (inl e) _ _ = inl (inr (inl e))
     found (inr _) (inr _) (inl e) _ = inl (inr (inr (inl e)))
     found (inr _) (inr _) (inr _) (inl e) = inl (inr (inr (inr e)))
-    found (inr p) (inr q) (inr r) (inr s) = inr (λ b. s (blank-last p q r b))
+    found (inr p) (inr q) (inr r) (inr s) = inr (λ b. s (blank_last p q r b))
 
 run_of : (text : List ℕ) → RunOf text
 run_of [] = record { run = []; rest = []; whole = refl; unbroken = nothing; ended = end }
-run_of (c ∷ text) = begun (blank-or-not c) (run_of text)
+run_of (c ∷ text) = begun (blank_or_not c) (run_of text)
   where
     begun : Blank c ⊎ (Blank c → ⊥) → RunOf text → RunOf (c ∷ text)
     begun (inl b) r = record { run = []; rest = c ∷ text; whole = refl; unbroken = nothing; ended = ended-blank b }
@@ -151,8 +151,8 @@ run_of (c ∷ text) = begun (blank-or-not c) (run_of text)
         }
 
 module _ {text ns : List ℕ} {v : ℕ} (c : ℕ) (row : Row text ns v) where
-  longer-value : value_of (row.word ++ (c ∷ [])) ≡ 10 * v + (c - 48)
-  longer-value = omega (arith, value-more row.word c, row.value)
+  longer_value : value_of (row.word ++ (c ∷ [])) ≡ 10 * v + (c - 48)
+  longer_value = omega (arith, value_more row.word c, row.value)
 
   pub row_more : {w : ℕ} → Digit c → w ≡ 10 * v + (c - 48) → w ≤ 65535 → Open (text ++ (c ∷ [])) ns w
   row_more d e l =
@@ -164,7 +164,7 @@ module _ {text ns : List ℕ} {v : ℕ} (c : ℕ) (row : Row text ns v) where
         number = record {
           some = omega (arith, size row.word c);
           digits = all_append row.digits (also d nothing);
-          value = e ∙ sym longer-value;
+          value = e ∙ sym longer_value;
           small = l;
         };
       }
@@ -176,10 +176,10 @@ module _ {text ns : List ℕ} {v : ℕ} (c : ℕ) (row : Row text ns v) where
       refuted : All Digit (c ∷ run) → ⊥
       refuted (also d _) =
           let same : (row.word ++ (c ∷ [])) ++ run ≡ row.word ++ (c ∷ run) = append_assoc row.word (c ∷ []) run in
-          omega (arith, large d, longer-value, value_grows (row.word ++ (c ∷ [])) run, ap value_of same, is.value, is.small)
+          omega (arith, large d, longer_value, value_grows (row.word ++ (c ∷ [])) run, ap value_of same, is.value, is.small)
 
-  pub row-stops : (Blank c → ⊥) → (Digit c → 65535 < 10 * v + (c - 48)) → Halted (text ++ (c ∷ [])) ns
-  row-stops unblank large = record { before = λ more. stops more (run_of more) }
+  pub row_stops : (Blank c → ⊥) → (Digit c → 65535 < 10 * v + (c - 48)) → Halted (text ++ (c ∷ [])) ns
+  row_stops unblank large = record { before = λ more. stops more (run_of more) }
     where
       stops : (more : List ℕ) → RunOf more → Stops ((text ++ (c ∷ [])) ++ more) ns
       stops more first =
@@ -195,7 +195,7 @@ module _ {text ns : List ℕ} {v : ℕ} (c : ℕ) (row : Row text ns v) where
               rest = first.rest;
               whole = refl;
               some = simp length-append (omega arith);
-              unbroken = all_append (digits-unbroken row.digits) (also unblank first.unbroken);
+              unbroken = all_append (digits_unbroken row.digits) (also unblank first.unbroken);
               ended = first.ended;
               none = no_number large first.run;
             };

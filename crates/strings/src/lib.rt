@@ -2,8 +2,8 @@
 // rule in one word; from it a table of lengths is made, and any string is spelled. What the table spells, and that it is the string of
 // the definitions, stands in specs/.
 ghost use Rattle.std.specs.Prelude.{◌≡◌, ◌<◌, ◌≤◌, length};
-ghost use Rattle.grammar.specs.Words.{nonterminalCount};
-ghost use Rattle.grammar.specs.theory.Closed.{total};
+ghost use Rattle.grammar.specs.Words.{nonterminal_count};
+ghost use Rattle.grammar.specs.Theory.Closed.{total};
 ghost use Rattle.strings.specs.Gathering.{CanGather, Gathered};
 ghost use Rattle.strings.specs.Lengths.{
   CanMeasure,
@@ -13,7 +13,7 @@ ghost use Rattle.strings.specs.Lengths.{
   Renewed,
   Rounded,
 };
-ghost use Rattle.strings.specs.Spelling.{lengthIn, members};
+ghost use Rattle.strings.specs.Spelling.{length_in, members};
 ghost use Rattle.strings.specs.Work.{CanSpell, Spelt};
 
 // Where the parser's tables have the cheapest rules, and where the right sides.
@@ -26,7 +26,7 @@ const RIGHTS: usize = 256;
 // Fills the table from the parser's tables: entry k is the right side of the cheapest rule of nonterminal 64 + k.
 pub fn gather(words: &[u16], prices: &[u32], sides: &[u64], table: &mut [u64])
     requires { CanGather words.now prices.now sides.now table.old }
-    ensures { Gathered (nonterminalCount words.now) prices.now sides.now
+    ensures { Gathered (nonterminal_count words.now) prices.now sides.now
         table.old table.new }
 {
     let count = shape::nonterminal_count(words);
@@ -90,7 +90,7 @@ fn renew(count: usize, next: &[usize], lengths: &mut [usize]) -> bool
 // The sum over a right side.
 fn sum_of(lengths: &[usize], right: u64) -> usize
     requires { CanSum lengths.now right }
-    ensures { result ≡ total (lengthIn lengths.now) (members right) }
+    ensures { result ≡ total (length_in lengths.now) (members right) }
 {
     let mut left = right;
     let mut sum: usize = 0;
@@ -105,7 +105,7 @@ fn sum_of(lengths: &[usize], right: u64) -> usize
 pub fn length_of(lengths: &[usize], symbol: usize) -> usize
     requires lengths_len { length lengths.now ≡ 64 }
     requires symbol_bound { symbol < 128 }
-    ensures { result ≡ lengthIn lengths.now symbol }
+    ensures { result ≡ length_in lengths.now symbol }
 {
     if symbol < 64 {
         return 1;

@@ -3,12 +3,12 @@
 ghost use mathlib.Core.Path.{◌≡◌};
 ghost use Prim.Native.Nat.{◌+◌, ◌-◌, ◌*◌, ◌≤◌, ◌<◌};
 ghost use lib.ListN.{length, get_or};
-ghost use Rattle.grammar.specs.theory.Tables.{sizedOf};
+ghost use Rattle.grammar.specs.Theory.Tables.{sized_of};
 ghost use Rattle.moves.specs.Pile.{pile};
 ghost use Rattle.correction.specs.Searching.{CanSearch, SearchOf};
 ghost use Rattle.correction.specs.Popping.{CanPop, PoppedOf};
 ghost use Rattle.correction.specs.Corrections.{CanCorrect, CorrectedOf};
-ghost use Rattle.table_correction.specs.Entries.{beginsIn, byTable, dropsTo, emptyIn};
+ghost use Rattle.table_correction.specs.Entries.{begins_in, by_table, drops_to, empty_in};
 
 use correction::{Corrected, Search};
 use grammar::Entry;
@@ -17,7 +17,7 @@ use moves::Parser;
 // "Ai is t or its entry is a rule."
 fn begins(table: &[u16], symbol: u16, t: u16) -> bool
     requires { (symbol < 128) × (t < 64) × (length table.now ≡ 4096) }
-    ensures { result ≡ beginsIn table.now symbol t }
+    ensures { result ≡ begins_in table.now symbol t }
 {
     if symbol < 64 {
         return symbol == t;
@@ -33,7 +33,7 @@ fn begins(table: &[u16], symbol: u16, t: u16) -> bool
 // "Its row has a drop." A terminal has no row, and cannot be empty.
 fn empty(table: &[u16], symbol: u16) -> bool
     requires { (symbol < 128) × (length table.now ≡ 4096) }
-    ensures { result ≡ emptyIn table.now symbol }
+    ensures { result ≡ empty_in table.now symbol }
 {
     if symbol < 64 {
         return false;
@@ -44,7 +44,7 @@ fn empty(table: &[u16], symbol: u16) -> bool
 // The row of a nonterminal has a drop.
 fn has_drop(table: &[u16], nonterminal: u16) -> bool
     requires { (64 ≤ nonterminal) × (nonterminal < 128) × (length table.now ≡ 4096) }
-    ensures { result ≡ dropsTo table.now nonterminal 64 }
+    ensures { result ≡ drops_to table.now nonterminal 64 }
 {
     let mut t: u16 = 0;
     while t < 64 {
@@ -73,9 +73,9 @@ fn seek(
     height: usize,
     r: usize,
 ) -> Search
-    requires { CanSearch (sizedOf words.now) log.now (byTable table.now) prices.now stack.now height
+    requires { CanSearch (sized_of words.now) log.now (by_table table.now) prices.now stack.now height
         × (length table.now ≡ 4096) }
-    ensures { SearchOf (sizedOf words.now) (pile stack.now height) (get_or log.now r 0) r result }
+    ensures { SearchOf (sized_of words.now) (pile stack.now height) (get_or log.now r 0) r result }
 {
     let t = correction::token_at(log, r);
     let limit = prices[LIMITS + base::wide(t)];
@@ -98,7 +98,7 @@ fn seek(
 // Pops the i topmost symbols, top first: one that can be empty is dropped, any other inserted before place r.
 fn pop(table: &[u16], stack: &[u16], edits: &mut [u16], p: Parser, r: usize, i: usize) -> Parser
     requires { CanPop stack.now p r i × (length table.now ≡ 4096) }
-    ensures { PoppedOf (byTable table.now) stack.now edits.old p r i result
+    ensures { PoppedOf (by_table table.now) stack.now edits.old p r i result
         edits.new }
 {
     let mut q = p;
@@ -127,9 +127,9 @@ pub fn correct(
     edits: &mut [u16],
     p: Parser,
 ) -> Corrected
-    requires { CanCorrect (sizedOf words.now) log.now (byTable table.now) prices.now stack.now p
+    requires { CanCorrect (sized_of words.now) log.now (by_table table.now) prices.now stack.now p
         × (length table.now ≡ 4096) }
-    ensures { CorrectedOf (sizedOf words.now) log.now stack.now edits.old p
+    ensures { CorrectedOf (sized_of words.now) log.now stack.now edits.old p
         edits.new result }
 {
     let mut q = p;

@@ -5,17 +5,17 @@ use mathlib.Core.List.{List, [], ◌∷◌}
 use mathlib.Core.Option.{none}
 use native.Mathlib.Omega.{arith}
 use lib.ListN.{length, get_or}
-use Rattle.grammar.specs.Words.{RuleSymbol, nonterminalCount}
+use Rattle.grammar.specs.Words.{RuleSymbol, nonterminal_count}
 use Rattle.grammar.specs.Derivation.{First}
-use Rattle.grammar.specs.Grammar.{Verdict, grammarOf}
+use Rattle.grammar.specs.Grammar.{Verdict, grammar_of}
 use Rattle.grammar.specs.Run.{LogFits}
 use Rattle.grammar.specs.declared.Refusal.TheVariants.{NoRoom}
-use Rattle.grammar.specs.theory.Good.{accepted, good-words}
-use Rattle.grammar.specs.theory.Tables.{sizedOf}
+use Rattle.grammar.specs.Theory.Good.{accepted, good_words}
+use Rattle.grammar.specs.Theory.Tables.{sized_of}
 use Rattle.shape.specs.Ready.{Ready}
 use Rattle.verdict.specs.Answer.{Weights}
 use Rattle.moves.specs.Pile.{pile}
-use Rattle.moves.specs.States.{CanCount, matchedBy, droppedBy, windowless}
+use Rattle.moves.specs.States.{CanCount, matched_by, dropped_by, windowless}
 use Rattle.moves.specs.Windows.{Shows}
 use Rattle.moves.specs.declared.Parser.{Parser}
 use Rattle.correction.specs.Corrections.{CanCorrect, CorrectedOf}
@@ -23,15 +23,15 @@ use Rattle.correction.specs.declared.Corrected.{Corrected}
 use Rattle.correction.specs.declared.Corrected.TheVariants.{Full}
 use Rattle.correction.specs.declared.Corrected.TheVariants as corrected
 use Rattle.parser.specs.Expanding.{ExpandedOf}
-use Rattle.parser.specs.Parses.{setting-of}
-use Rattle.parser.specs.Reached.{Setting, Reached, height-low}
+use Rattle.parser.specs.Parses.{setting_of}
+use Rattle.parser.specs.Reached.{Setting, Reached, height_low}
 use Rattle.parser.specs.Runs.{Runs, reached-lent}
-use Rattle.parser.specs.Turning.{TurnOf, now-running, token-terminal, counting, cells-used}
+use Rattle.parser.specs.Turning.{TurnOf, now_running, token_terminal, counting, cells-used}
 use Rattle.parser.specs.Turning as turning
 use Rattle.parser.specs.declared.Turned.{Turned}
 use Rattle.parser.specs.declared.Turned.TheVariants.{On, Refused}
 use Rattle.predict_table.specs.Table.{TableOf}
-use Rattle.table_correction.specs.Entries.{byTable, decides-table}
+use Rattle.table_correction.specs.Entries.{by_table, decides_table}
 use Rattle.table_engine.specs.Picks.{CanPick, PickOf}
 use Rattle.table_engine.specs.Growing.{CanGrow}
 use Rattle.table_engine.specs.declared.Pick.{Pick}
@@ -39,13 +39,13 @@ use Rattle.table_engine.specs.declared.Pick.TheVariants as pick
 
 -- What the engine goes by: its setting, where each rule stands, and the predict table.
 pub record Guides (ws log places table prices : List ℕ) : Type 0 where
-  pub setting : Setting (sizedOf ws) log (byTable table) prices
+  pub setting : Setting (sized_of ws) log (by_table table) prices
   pub ready : Ready ws places
-  pub filled : TableOf (grammarOf ws) (nonterminalCount ws) table
+  pub filled : TableOf (grammar_of ws) (nonterminal_count ws) table
 
 pub record CanTurn (ws log places table prices stack edits rules : List ℕ) (p : Parser) : Type 0 where
   pub guides : Guides ws log places table prices
-  pub reached : Reached (sizedOf ws) log (length edits) (length rules) stack edits rules p
+  pub reached : Reached (sized_of ws) log (length edits) (length rules) stack edits rules p
   pub some : 0 < p.height
   pub shows : Shows p.window (pile stack p.height)
 
@@ -57,95 +57,95 @@ pub record CanRun (ws log places table prices stack : List ℕ) : Type 0 where
 
 module _ {ws log places table prices stack edits rules : List ℕ} {p : Parser}
     (can : CanTurn ws log places table prices stack edits rules p) {t : ℕ} (current : t ≡ get_or log p.place 0) where
-  pub choose-can : CanPick (sizedOf ws) table stack p.height t
-  choose-can =
+  pub choose_can : CanPick (sized_of ws) table stack p.height t
+  choose_can =
       let setting = can.guides.setting in
-      let here = now-running setting can.reached can.some in
+      let here = now_running setting can.reached can.some in
       record {
         walk =
             record {
               good = setting.good;
-              terminals-high = setting.known.terminals-high;
-              nonterminals-high = setting.known.nonterminals-high;
+              terminals_high = setting.known.terminals_high;
+              nonterminals_high = setting.known.nonterminals_high;
               filled = can.guides.filled;
               symbols = here.symbols;
               cells = cells-used setting can.reached can.some;
-              token = token-terminal setting can.reached can.some t current;
+              token = token_terminal setting can.reached can.some t current;
             };
         some = can.some;
         stands = here.stands;
       }
 
-  pub count-can : CanCount p × (1 ≤ p.height)
-  count-can = (counting can.guides.setting can.reached can.some, can.some)
+  pub count_can : CanCount p × (1 ≤ p.height)
+  count_can = (counting can.guides.setting can.reached can.some, can.some)
 
-  pub correct-can : CanCorrect (sizedOf ws) log (byTable table) prices stack p × (length table ≡ 4096)
-  correct-can = (turning.correct-can can.guides.setting can.reached can.some, can.guides.filled.size)
+  pub correct_can : CanCorrect (sized_of ws) log (by_table table) prices stack p × (length table ≡ 4096)
+  correct_can = (turning.correct_can can.guides.setting can.reached can.some, can.guides.filled.size)
 
-  module _ {picked : Pick} (w : PickOf (sizedOf ws) stack p.height t picked) where
-    told : {x : Pick} → picked ≡ x → PickOf (sizedOf ws) stack p.height t x
-    told e = subst (PickOf (sizedOf ws) stack p.height t) e w
+  module _ {picked : Pick} (w : PickOf (sized_of ws) stack p.height t picked) where
+    told : {x : Pick} → picked ≡ x → PickOf (sized_of ws) stack p.height t x
+    told e = subst (PickOf (sized_of ws) stack p.height t) e w
 
-    pub turn_match : {q : Parser} → picked ≡ pick.Match → q ≡ matchedBy p
-        → TurnOf (sizedOf ws) log (length edits) (length rules) p.moves stack edits rules (On q)
+    pub turn_match : {q : Parser} → picked ≡ pick.Match → q ≡ matched_by p
+        → TurnOf (sized_of ws) log (length edits) (length rules) p.moves stack edits rules (On q)
     unfolding PickOf
     turn_match e f =
-        turning.on-match can.guides.setting can.reached can.some (omega arith) (told e ∙ current) can.shows f
+        turning.on_match can.guides.setting can.reached can.some (omega arith) (told e ∙ current) can.shows f
 
-    pub turn-drop : {q : Parser} → picked ≡ pick.Drop → q ≡ droppedBy p
-        → TurnOf (sizedOf ws) log (length edits) (length rules) p.moves stack edits rules (On q)
+    pub turn_drop : {q : Parser} → picked ≡ pick.Drop → q ≡ dropped_by p
+        → TurnOf (sized_of ws) log (length edits) (length rules) p.moves stack edits rules (On q)
     unfolding PickOf
-    turn-drop e f =
+    turn_drop e f =
         let d = told e in
-        turning.on-drop can.guides.setting can.reached can.some (omega arith)
-        (subst (λ u. First (grammarOf ws).rules (pile stack p.height) u) current d.0)
-        (λ g. d.1 (subst (λ u. First (grammarOf ws).rules (get_or stack (p.height - 1) 0 ∷ []) u) (sym current) g))
+        turning.on_drop can.guides.setting can.reached can.some (omega arith)
+        (subst (λ u. First (grammar_of ws).rules (pile stack p.height) u) current d.0)
+        (λ g. d.1 (subst (λ u. First (grammar_of ws).rules (get_or stack (p.height - 1) 0 ∷ []) u) (sym current) g))
         can.shows f
 
-    pub expand-can : {rule : ℕ} → picked ≡ pick.Expand rule → CanGrow ws places stack p rule t
+    pub expand_can : {rule : ℕ} → picked ≡ pick.Expand rule → CanGrow ws places stack p rule t
     unfolding PickOf
-    expand-can e =
+    expand_can e =
         let u = told e in
         record {
           ready = can.guides.ready;
           some = can.some;
-          height = height-low can.guides.setting can.reached;
+          height = height_low can.guides.setting can.reached;
           cells = can.reached.cells;
           ruled = u.0;
           number = u.1;
-          few = can.guides.ready.shaped.rules-high;
-          counts = count-can.0;
+          few = can.guides.ready.shaped.rules_high;
+          counts = count_can.0;
         }
 
     -- The token is in error.
-    error : picked ≡ pick.Error → First (grammarOf ws).rules (pile stack p.height) (get_or log p.place 0) → ⊥
+    error : picked ≡ pick.Error → First (grammar_of ws).rules (pile stack p.height) (get_or log p.place 0) → ⊥
     unfolding PickOf
-    error e f = told e (subst (λ u. First (grammarOf ws).rules (pile stack p.height) u) (sym current) f)
+    error e f = told e (subst (λ u. First (grammar_of ws).rules (pile stack p.height) u) (sym current) f)
 
-    pub turn-correct : {found : Corrected} {q u : Parser} (edits' : List ℕ) → picked ≡ pick.Error
-        → CorrectedOf (sizedOf ws) log stack edits p edits' found → found ≡ corrected.On q → u ≡ windowless q
-        → TurnOf (sizedOf ws) log (length edits) (length rules) p.moves stack edits' rules (On u)
-    turn-correct edits' e x f g =
-        turning.on-correct can.guides.setting can.reached can.some (omega arith) (error e) edits' x f g
+    pub turn_correct : {found : Corrected} {q u : Parser} (edits' : List ℕ) → picked ≡ pick.Error
+        → CorrectedOf (sized_of ws) log stack edits p edits' found → found ≡ corrected.On q → u ≡ windowless q
+        → TurnOf (sized_of ws) log (length edits) (length rules) p.moves stack edits' rules (On u)
+    turn_correct edits' e x f g =
+        turning.on_correct can.guides.setting can.reached can.some (omega arith) (error e) edits' x f g
 
-    pub turn-full : {found : Corrected} (edits' : List ℕ) → picked ≡ pick.Error
-        → CorrectedOf (sizedOf ws) log stack edits p edits' found → found ≡ Full
-        → TurnOf (sizedOf ws) log (length edits) (length rules) p.moves stack edits' rules (Refused NoRoom)
-    turn-full edits' e x f =
+    pub turn_full : {found : Corrected} (edits' : List ℕ) → picked ≡ pick.Error
+        → CorrectedOf (sized_of ws) log stack edits p edits' found → found ≡ Full
+        → TurnOf (sized_of ws) log (length edits) (length rules) p.moves stack edits' rules (Refused NoRoom)
+    turn_full edits' e x f =
         turning.on-full can.guides.setting can.reached can.some (omega arith) (error e) edits' x f
 
-  pub turn-expand : (stack' rules' : List ℕ) (turn : Turned) → ExpandedOf (sizedOf ws) stack rules p t stack' rules' turn
-      → TurnOf (sizedOf ws) log (length edits) (length rules) p.moves stack' edits rules' turn
-  turn-expand stack' rules' turn x =
-      turning.on-expand can.guides.setting can.reached can.some (omega arith) stack' rules' turn current x
+  pub turn_expand : (stack' rules' : List ℕ) (turn : Turned) → ExpandedOf (sized_of ws) stack rules p t stack' rules' turn
+      → TurnOf (sized_of ws) log (length edits) (length rules) p.moves stack' edits rules' turn
+  turn_expand stack' rules' turn x =
+      turning.on_expand can.guides.setting can.reached can.some (omega arith) stack' rules' turn current x
 
 -- ---- The run
 
-pub turn-can : {ws log places table prices : List ℕ} → Guides ws log places table prices
-    → {stack₀ edits₀ rules₀ stack edits rules : List ℕ} {p : Parser} → Runs (sizedOf ws) log stack₀ edits₀ rules₀ stack edits rules p
+pub turn_can : {ws log places table prices : List ℕ} → Guides ws log places table prices
+    → {stack₀ edits₀ rules₀ stack edits rules : List ℕ} {p : Parser} → Runs (sized_of ws) log stack₀ edits₀ rules₀ stack edits rules p
     → 0 < p.height
     → CanTurn ws log places table prices stack edits rules p
-turn-can guides r l = record { guides = guides; reached = reached-lent r; some = l; shows = r.shows }
+turn_can guides r l = record { guides = guides; reached = reached-lent r; some = l; shows = r.shows }
 
 -- What the run is begun from: accepted words, a log that fits, and what the check leaves.
 pub record CanBegin (ws log places sets prices : List ℕ) : Type 0 where
@@ -154,14 +154,14 @@ pub record CanBegin (ws log places sets prices : List ℕ) : Type 0 where
   pub weights : Weights ws places sets prices
 
 -- Accepted words, a log that fits, the prices and the table are what the engine goes by.
-pub guides-of : {ws log places sets prices table : List ℕ} → CanBegin ws log places sets prices
-    → TableOf (grammarOf ws) (nonterminalCount ws) table → Guides ws log places table prices
-guides-of {ws} can filled =
+pub guides_of : {ws log places sets prices table : List ℕ} → CanBegin ws log places sets prices
+    → TableOf (grammar_of ws) (nonterminal_count ws) table → Guides ws log places table prices
+guides_of {ws} can filled =
     let a = accepted can.verdict in
     record {
       setting =
-          setting-of can.verdict can.fits
-          (decides-table (sizedOf ws) a.shaped.terminals-high (good-words ws a) (λ A l h. RuleSymbol.nonterminal l h) filled)
+          setting_of can.verdict can.fits
+          (decides_table (sized_of ws) a.shaped.terminals_high (good_words ws a) (λ A l h. RuleSymbol.nonterminal l h) filled)
           can.weights.costs;
       ready = can.weights.ready;
       filled = filled;

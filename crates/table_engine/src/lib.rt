@@ -4,15 +4,15 @@
 ghost use Prim.Native.Nat.{◌+◌, ◌-◌, ◌<◌};
 ghost use lib.ListN.{length};
 ghost use Rattle.base.specs.Telling.{Tells};
-ghost use Rattle.grammar.specs.Grammar.{grammarOf};
+ghost use Rattle.grammar.specs.Grammar.{grammar_of};
 ghost use Rattle.grammar.specs.PredictTable.{Fits};
 ghost use Rattle.grammar.specs.Run.{Parsed};
-ghost use Rattle.grammar.specs.theory.Tables.{sizedOf};
+ghost use Rattle.grammar.specs.Theory.Tables.{sized_of};
 ghost use Rattle.moves.specs.Pile.{pile};
-ghost use Rattle.parser.specs.Asking.{asksBy, nothingAsked};
+ghost use Rattle.parser.specs.Asking.{asks_by, nothing_asked};
 ghost use Rattle.parser.specs.Expanding.{ExpandedOf};
 ghost use Rattle.parser.specs.Parses.{SettledAs};
-ghost use Rattle.parser.specs.Runs.{RanOf, parsingOf};
+ghost use Rattle.parser.specs.Runs.{RanOf, parsing_of};
 ghost use Rattle.parser.specs.Turning.{TurnOf};
 ghost use Rattle.table_engine.specs.Walks.{CanWalk};
 ghost use Rattle.table_engine.specs.Picks.{CanPick, PickOf};
@@ -30,7 +30,7 @@ use verdict::Checked;
 // gives the lowest refusal of 5 to 10 that applies, or the one of 11 and 12 that the run meets.
 pub fn parse_table(words: &[u16], log: &[u16], edits: &mut [u16], rules: &mut [u16]) -> Parsing
     ensures { Parsed words.now log.now (length edits.old) (length rules.old)
-        (parsingOf result) edits.new rules.new }
+        (parsing_of result) edits.new rules.new }
 {
     let answer = settle(words, log, edits, rules);
     parser::leave(answer, edits, rules);
@@ -39,7 +39,7 @@ pub fn parse_table(words: &[u16], log: &[u16], edits: &mut [u16], rules: &mut [u
 
 // The conditions before the run, in their order, the table, and the run. The buffers are not cleared yet.
 fn settle(words: &[u16], log: &[u16], edits: &mut [u16], rules: &mut [u16]) -> Parsing
-    ensures { SettledAs (asksBy nothingAsked) words.now log.now (length edits.old)
+    ensures { SettledAs (asks_by nothing_asked) words.now log.now (length edits.old)
         (length rules.old) edits.new rules.new result }
 {
     let mut places = [0u16; 256];
@@ -73,7 +73,7 @@ fn begin(
     rules: &mut [u16],
 ) -> Parsing
     requires { CanBegin words.now log.now places.now sets.now prices.now }
-    ensures { RanOf (sizedOf words.now) log.now (length edits.old)
+    ensures { RanOf (sized_of words.now) log.now (length edits.old)
         (length rules.old) edits.new rules.new result }
 {
     let mut table = [0u16; 4096];
@@ -94,7 +94,7 @@ fn run(
     rules: &mut [u16],
 ) -> Parsing
     requires { CanRun words.now log.now places.now table.now prices.now stack.old }
-    ensures { RanOf (sizedOf words.now) log.now (length edits.old)
+    ensures { RanOf (sized_of words.now) log.now (length edits.old)
         (length rules.old) edits.new rules.new result }
 {
     stack[0] = 0;
@@ -129,7 +129,7 @@ fn turn(
     p: Parser,
 ) -> Turned
     requires { CanTurn words.now log.now places.now table.now prices.now stack.old edits.old rules.old p }
-    ensures { TurnOf (sizedOf words.now) log.now (length edits.old)
+    ensures { TurnOf (sized_of words.now) log.now (length edits.old)
         (length rules.old) p.moves stack.new edits.new rules.new result }
 {
     let t = correction::token_at(log, p.place);
@@ -161,8 +161,8 @@ enum Pick {
 // The entry gives the choice: a rule is expanded, and a drop is made only where the stack below it fits the token. Else "t is in error and
 // nothing has moved for it".
 fn choose(words: &[u16], table: &[u16], stack: &[u16], height: usize, t: u16) -> Pick
-    requires { CanPick (sizedOf words.now) table.now stack.now height t }
-    ensures { PickOf (sizedOf words.now) stack.now height t result }
+    requires { CanPick (sized_of words.now) table.now stack.now height t }
+    ensures { PickOf (sized_of words.now) stack.now height t result }
 {
     let top = stack[height - 1];
     if top == t {
@@ -188,8 +188,8 @@ fn choose(words: &[u16], table: &[u16], stack: &[u16], height: usize, t: u16) ->
 // The test of the stack, "walk down by the table": "the token itself or a rule: it fits; drop: go on; error or another terminal: it does
 // not".
 fn fits(words: &[u16], table: &[u16], stack: &[u16], height: usize, t: u16) -> bool
-    requires { CanWalk (sizedOf words.now) table.now stack.now height t }
-    ensures { Tells (Fits (grammarOf words.now) t (pile stack.now height)) result }
+    requires { CanWalk (sized_of words.now) table.now stack.now height t }
+    ensures { Tells (Fits (grammar_of words.now) t (pile stack.now height)) result }
 {
     let mut h = height;
     while 0 < h {
@@ -222,7 +222,7 @@ fn expand(
     t: u16,
 ) -> Turned
     requires { CanGrow words.now places.now stack.old p rule t }
-    ensures { ExpandedOf (sizedOf words.now) stack.old rules.old p t stack.new
+    ensures { ExpandedOf (sized_of words.now) stack.old rules.old p t stack.new
         rules.new result }
 {
     let at = p.height - 1;

@@ -1,6 +1,6 @@
 // What the test programs do with lent buffers: old content before a call, and one number for the content after it.
 ghost use Rattle.std.specs.Prelude.{◌≡◌, ◌≤◌, length, replicate};
-ghost use Rattle.test_buffers.specs.Digest.{digestOf};
+ghost use Rattle.test_buffers.specs.Digest.{digest_of};
 
 // Old content: no word of it is zero.
 pub fn put_old(words: &mut [u16])
@@ -16,7 +16,7 @@ pub fn put_old(words: &mut [u16])
 // A number that tells the first `room` words: 0 where all are zero, and any left word shows in it.
 pub fn digest(words: &[u16], room: usize) -> u64
     requires { room ≤ length words.now }
-    ensures { result ≡ digestOf words.now room }
+    ensures { result ≡ digest_of words.now room }
 {
     let mut sum: usize = 0;
     let mut i = 0;
@@ -41,7 +41,7 @@ pub fn put_old_bytes(bytes: &mut [u8])
 // A number that tells the first `room` bytes, as `digest` does of words.
 pub fn digest_bytes(bytes: &[u8], room: usize) -> u64
     requires { room ≤ length bytes.now }
-    ensures { result ≡ digestOf bytes.now room }
+    ensures { result ≡ digest_of bytes.now room }
 {
     let mut sum: usize = 0;
     let mut i = 0;

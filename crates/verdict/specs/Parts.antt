@@ -17,21 +17,21 @@ module _ (a k : ℕ) (xs ys : List ℕ) (fits : a + k ≤ length xs) (size : len
   pub part_length : length (put_mid a k xs ys) ≡ length xs
   part_length = same_len_mid a k xs ys (size ∙ sym (length-take-le k (drop a xs) (omega (arith, length-drop a xs))))
 
-  pub inside-part : (i j : ℕ) → j ≡ a + i → i < k → get_or (put_mid a k xs ys) j 0 ≡ get_or ys i 0
-  inside-part i j e h =
+  pub inside_part : (i j : ℕ) → j ≡ a + i → i < k → get_or (put_mid a k xs ys) j 0 ≡ get_or ys i 0
+  inside_part i j e h =
       let at : j ≡ length (take a xs) + i = omega (arith, front) in
       let back = drop k (drop a xs) in
       ap (λ n. get_or (put_mid a k xs ys) n 0) at
       ∙ (get_or-append-add (take a xs) (ys ++ back) i 0 ∙ get_or-append ys back 0 i (omega arith))
 
-  pub before-part : (j : ℕ) → j < a → get_or (put_mid a k xs ys) j 0 ≡ get_or xs j 0
-  before-part j h =
+  pub before_part : (j : ℕ) → j < a → get_or (put_mid a k xs ys) j 0 ≡ get_or xs j 0
+  before_part j h =
       get_or-append (take a xs) (ys ++ drop k (drop a xs)) 0 j (omega (arith, front)) ∙ get_or-take a xs j 0 h
 
 -- What the written entry has, and each other had, all have.
-pub each-entry : (P : ℕ → ℕ → Type 0) (l : List ℕ) (i v : ℕ) → i < length l → P i v → ((j : ℕ) → (j ≡ i → ⊥) → P j (get_or l j 0))
+pub each_entry : (P : ℕ → ℕ → Type 0) (l : List ℕ) (i v : ℕ) → i < length l → P i v → ((j : ℕ) → (j ≡ i → ⊥) → P j (get_or l j 0))
     → (j : ℕ) → P j (get_or (set l i v) j 0)
-each-entry P l i v h here others j = at (eqb j i) refl
+each_entry P l i v h here others j = at (eqb j i) refl
   where
     at : (e : Bool) → eqb j i ≡ e → P j (get_or (set l i v) j 0)
     at true e =

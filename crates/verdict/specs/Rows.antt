@@ -1,9 +1,9 @@
 -- A rule's row, symbol by symbol, with its right side in one word.
---     row-begins, row_goes, row_room, row_ends a row is written from its last symbol to its first
+--     row_begins, row_goes, row_room, row_ends a row is written from its last symbol to its first
 use Rattle.std.specs.Prelude.{ℕ, suc, ◌+◌, ◌-◌, ◌*◌, ◌^◌, ◌≤◌, ◌<◌, ◌≡◌, List, ◌∷◌, length, get_or, set, drop}
 use Rattle.std.proofs.Common.{sym, ap, ◌∙◌, subst, arith, length-set, drop_of_length-le, get_or-set_same, get_or-set_other, drop-cons, pow-add, pow_mono}
-use Rattle.grammar.specs.theory.Tables.{packed}
-use Rattle.verdict.specs.Parts.{each-entry}
+use Rattle.grammar.specs.Theory.Tables.{packed}
+use Rattle.verdict.specs.Parts.{each_entry}
 
 -- The row of a right side β with its link, where the last i symbols are written, and packed in `right`.
 pub record RowTo (β : List ℕ) (link i : ℕ) (row : List ℕ) (right : ℕ) : Type 0 where
@@ -15,10 +15,10 @@ pub record RowTo (β : List ℕ) (link i : ℕ) (row : List ℕ) (right : ℕ) :
   pub is : right ≡ packed (drop (length β - i) β)
   pub small : right < 2 ^ (8 * i)
 
-pub row-begins : {β : List ℕ} {n link : ℕ} (row : List ℕ) → length row ≡ 16 → n ≡ length β
+pub row_begins : {β : List ℕ} {n link : ℕ} (row : List ℕ) → length row ≡ 16 → n ≡ length β
     → RowTo β link 0 (set (set row 8 n) 9 link) 0
 unfolding packed
-row-begins {β} {n} {link} row e size =
+row_begins {β} {n} {link} row e size =
     let mid = length-set row 8 n in
     record {
       within = omega arith;
@@ -41,7 +41,7 @@ row_goes {β} {row} {link} {i} {n} {right} {x} r size few b e low =
     record {
       within = omega arith;
       sized = length-set row i x ∙ r.sized;
-      symbols = each-entry (λ j v. j < i + 1 → v ≡ get_or β (length β - (j + 1)) 0) row i x (omega (arith, r.sized))
+      symbols = each_entry (λ j v. j < i + 1 → v ≡ get_or β (length β - (j + 1)) 0) row i x (omega (arith, r.sized))
           (λ _. here) (λ j n h. r.symbols j (omega arith));
       size = get_or-set_other row i 8 x 0 (λ q. omega arith) ∙ r.size;
       last = get_or-set_other row i 9 x 0 (λ q. omega arith) ∙ r.last;
@@ -69,5 +69,5 @@ row_goes {β} {row} {link} {i} {n} {right} {x} r size few b e low =
 pub row_ends : {β row : List ℕ} {link i right : ℕ} → RowTo β link i row right → length β ≤ i → RowTo β link (length β) row right
 row_ends {β} {row} {link} {right = right} r h = subst (λ n. RowTo β link n row right) (omega (arith, r.within)) r
 
-pub row-packed : {β row : List ℕ} {link right : ℕ} → RowTo β link (length β) row right → right ≡ packed β
-row-packed {β} r = let none : length β - length β ≡ 0 = omega arith in r.is ∙ ap (λ k. packed (drop k β)) none
+pub row_packed : {β row : List ℕ} {link right : ℕ} → RowTo β link (length β) row right → right ≡ packed β
+row_packed {β} r = let none : length β - length β ≡ 0 = omega arith in r.is ∙ ap (λ k. packed (drop k β)) none

@@ -1,8 +1,8 @@
 // The grammar check: the verdict 5 to 9, and the tables that a parser needs.
 ghost use Rattle.std.specs.Prelude.{◌≡◌, true, ℕ, ◌<◌, length};
-ghost use Rattle.grammar.specs.Words.{Shaped, nonterminalCount, terminalCount};
+ghost use Rattle.grammar.specs.Words.{Shaped, nonterminal_count, terminal_count};
 ghost use Rattle.grammar.specs.Derivation.{NoneShared};
-ghost use Rattle.grammar.specs.Grammar.{RuleOf, Verdict, startOverEnd};
+ghost use Rattle.grammar.specs.Grammar.{RuleOf, Verdict, start_over_end};
 ghost use Rattle.sets.specs.Bits.{member};
 ghost use Rattle.base.specs.Telling.{Tells};
 ghost use Rattle.shape.specs.Ready.{Ready};
@@ -19,7 +19,7 @@ ghost use Rattle.verdict.specs.Answer.{
   Reaching,
   Sizes,
   Tabled,
-  checkOf,
+  check_of,
 };
 ghost use Rattle.verdict.specs.Prices.{Dear, Limits, Within};
 
@@ -27,7 +27,7 @@ use grammar::Refusal;
 
 mod rows;
 
-// The answer of the check: accepted, or the lowest refusal of 5 to 9 that applies. `checkOf` of specs/Answer.antt says what
+// The answer of the check: accepted, or the lowest refusal of 5 to 9 that applies. `check_of` of specs/Answer.antt says what
 // each stands for.
 #[derive(Drop)]
 pub enum Checked {
@@ -37,7 +37,7 @@ pub enum Checked {
 
 // The grammar check: the words are accepted, or the lowest refusal of 5 to 9 that applies is given.
 pub fn check(words: &[u16]) -> Checked
-    ensures { Verdict words.now (checkOf result) }
+    ensures { Verdict words.now (check_of result) }
 {
     let mut prices = [0u32; 192];
     priced(words, &mut prices)
@@ -145,7 +145,7 @@ fn reachable(words: &[u16], places: &[u16], mentions: &mut [u64], uses: &mut [u6
 // Every nonterminal is in the set.
 fn covers(words: &[u16], mask: u64) -> bool
     requires { Shaped words.now }
-    ensures { Tells ((k : ℕ) → k < nonterminalCount words.now → member mask k ≡ true) result }
+    ensures { Tells ((k : ℕ) → k < nonterminal_count words.now → member mask k ≡ true) result }
 {
     sets::beyond(sets::below(shape::nonterminal_count(words)), mask) == 0
 }
@@ -204,7 +204,7 @@ fn unshared(words: &[u16], places: &[u16], null: u64, firsts: &[u64]) -> bool
     requires asked { Asked words.now places.now null firsts.now }
     requires firsts_of { FirstsOf words.now firsts.now }
     requires reached { Reached words.now }
-    ensures { Tells (NoneShared (RuleOf words.now) startOverEnd) result }
+    ensures { Tells (NoneShared (RuleOf words.now) start_over_end) result }
 {
     let mut follows = [0u64; 64];
     follows::follows(words, places, null, firsts, &mut follows);
@@ -219,7 +219,7 @@ fn unshared(words: &[u16], places: &[u16], null: u64, firsts: &[u64]) -> bool
 fn limits(words: &[u16], limits: &mut [u32])
     requires shaped { Shaped words.now }
     requires limits_len { length limits.old ≡ 64 }
-    ensures { Limits words.now (terminalCount words.now) limits.new }
+    ensures { Limits words.now (terminal_count words.now) limits.new }
 {
     limits[0] = 4294967295;
     let count = shape::terminal_count(words);

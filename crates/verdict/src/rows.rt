@@ -1,9 +1,9 @@
 // What pushing a right side needs: FIRST of each and the symbols in one word, a row of words for each rule, and the links
 // between the rules of one left side (`Pushes` of the theory).
 ghost use Rattle.std.specs.Prelude.{◌≡◌, ◌<◌, length};
-ghost use Rattle.grammar.specs.Words.{nonterminalCount, rightSide, ruleCount};
-ghost use Rattle.grammar.specs.Grammar.{grammarOf};
-ghost use Rattle.grammar.specs.theory.Tables.{Pushes};
+ghost use Rattle.grammar.specs.Words.{nonterminal_count, right_side, rule_count};
+ghost use Rattle.grammar.specs.Grammar.{grammar_of};
+ghost use Rattle.grammar.specs.Theory.Tables.{Pushes};
 ghost use Rattle.shape.specs.Ready.{Ready};
 ghost use Rattle.verdict.specs.Sets.{SetsOf};
 ghost use Rattle.verdict.specs.Rows.{RowTo};
@@ -15,7 +15,7 @@ pub fn fill(words: &[u16], places: &[u16; 256], sets: &[u64], sides: &mut [u64],
     requires sets_of { SetsOf words.now sets.now }
     requires sides_len { length sides.old ≡ 512 }
     requires rows_len { length rows.old ≡ 4224 }
-    ensures { Pushes (grammarOf words.now) (nonterminalCount words.now) (ruleCount words.now)
+    ensures { Pushes (grammar_of words.now) (nonterminal_count words.now) (rule_count words.now)
         sides.new rows.new }
 {
     firsts::rule_firsts(words, places, sets[64], &sets[0..64], &mut sides[0..256]);
@@ -28,7 +28,7 @@ pub fn fill(words: &[u16], places: &[u16; 256], sets: &[u64], sides: &mut [u64],
 fn write_rows(words: &[u16], places: &[u16], sides: &mut [u64], rows: &mut [u16])
     requires ready { Ready words.now places.now }
     requires filling { Filling words.now 0 sides.old rows.old }
-    ensures { Pushes (grammarOf words.now) (nonterminalCount words.now) (ruleCount words.now)
+    ensures { Pushes (grammar_of words.now) (nonterminal_count words.now) (rule_count words.now)
         sides.new rows.new }
 {
     let count = shape::rule_count(words);
@@ -51,9 +51,9 @@ fn write_rows(words: &[u16], places: &[u16], sides: &mut [u64], rows: &mut [u16]
 // first symbol has the lowest byte.
 fn write_row(words: &[u16], places: &[u16], p: usize, link: u16, row: &mut [u16]) -> u64
     requires ready { Ready words.now places.now }
-    requires p_bound { p < ruleCount words.now }
+    requires p_bound { p < rule_count words.now }
     requires row_len { length row.old ≡ 16 }
-    ensures { RowTo (rightSide words.now p) link (length (rightSide words.now p)) row.new result }
+    ensures { RowTo (right_side words.now p) link (length (right_side words.now p)) row.new result }
 {
     let size = shape::size_of(words, places, p);
     row[8] = size as u16;

@@ -5,6 +5,6 @@ use Rattle.writer.specs.declared.Writing.{Writing}
 use Rattle.writer.specs.declared.Writing.TheVariants.{Bytes, Refused}
 
 -- What each answer stands for: the number of bytes written, or the refusal.
-abbrev pub writingOf : Writing → Outcome ℕ
-writingOf (Bytes n) = given n
-writingOf (Refused r) = refused r
+abbrev pub writing_of : Writing → Outcome ℕ
+writing_of (Bytes n) = given n
+writing_of (Refused r) = refused r

@@ -6,17 +6,17 @@ ghost use Rattle.grammar.specs.Buffers.{cleared, filled};
 ghost use Rattle.grammar.specs.Writing.{
   FileWritten,
   WordCount,
-  blocksFor,
-  blocksOf,
+  blocks_for,
+  blocks_of,
   bytes_of,
-  firstBlocks,
+  first_blocks,
 };
-ghost use Rattle.writer.specs.Answer.{writingOf};
+ghost use Rattle.writer.specs.Answer.{writing_of};
 
 use block::{BLOCK_BYTES, BLOCK_WORDS, CHECK, FIRST_WORD, USE_COUNT};
 use grammar::Refusal;
 
-// The answer: the number of bytes written, or a refusal. `writingOf` of specs/Answer.antt says what each stands for.
+// The answer: the number of bytes written, or a refusal. `writing_of` of specs/Answer.antt says what each stands for.
 #[derive(Drop)]
 pub enum Writing {
     Bytes(usize),
@@ -30,7 +30,7 @@ const MOST_WORDS: usize = 2783;
 // whole buffer is zero. The words are not checked. The buffer is cleared first, so that no refusal can leave an old byte in it, and what a
 // block does not use is zero.
 pub fn write(words: &[u16], bytes: &mut [u8]) -> Writing
-    ensures { FileWritten words.now (length bytes.old) (writingOf result) bytes.new }
+    ensures { FileWritten words.now (length bytes.old) (writing_of result) bytes.new }
 {
     base::clear_bytes(bytes, 0);
     if count_right(words.len()) {} else {
@@ -61,18 +61,18 @@ fn count_right(count: usize) -> bool
 // How many blocks so many words take: there is no empty last block.
 fn blocks_for(count: usize) -> usize
     requires { count ≤ 2783 }
-    ensures { result ≡ blocksFor count }
+    ensures { result ≡ blocks_for count }
 {
     (count + BLOCK_WORDS - 1) / BLOCK_WORDS
 }
 
 // Writes the blocks into a cleared buffer, in order.
 fn write_blocks(words: &[u16], blocks: usize, bytes: &mut [u8])
-    requires blocks_value { blocks ≡ blocksFor (length words.now) }
+    requires blocks_value { blocks ≡ blocks_for (length words.now) }
     requires blocks_bound { blocks ≤ 11 }
     requires blocks_in_bounds { 512 * blocks ≤ length bytes.old }
     requires bytes_value { bytes.old ≡ cleared (length bytes.old) }
-    ensures { bytes.new ≡ filled (length bytes.old) (blocksOf words.now) }
+    ensures { bytes.new ≡ filled (length bytes.old) (blocks_of words.now) }
 {
     let mut k = 0;
     while k < blocks {
@@ -86,8 +86,8 @@ fn write_block(words: &[u16], k: usize, bytes: &mut [u8])
     requires k_bound { k < 11 }
     requires k_in_bounds { 253 * k ≤ length words.now }
     requires k_in_bounds_2 { 512 * k + 512 ≤ length bytes.old }
-    requires bytes_value { bytes.old ≡ filled (length bytes.old) (firstBlocks words.now k) }
-    ensures { bytes.new ≡ filled (length bytes.old) (firstBlocks words.now (k + 1)) }
+    requires bytes_value { bytes.old ≡ filled (length bytes.old) (first_blocks words.now k) }
+    ensures { bytes.new ≡ filled (length bytes.old) (first_blocks words.now (k + 1)) }
 {
     let start = BLOCK_BYTES * k;
     let from = BLOCK_WORDS * k;

@@ -1,7 +1,7 @@
 -- `base::clear_bytes` meets its contract: the invariant is `Clearing`. The measure is what is left.
 use Prim.Native.Nat.{◌-◌}
 use lib.ListN.{length}
-use Rattle.base.specs.Clearing.{Clearing, clearing-begins, clearing-more, clearing-ends}
+use Rattle.base.specs.Clearing.{Clearing, clearing_begins, clearing_more, clearing_ends}
 use borrow.Author.Rules.{rules}
 use Rattle.base.proofs.clear_bytes.Statement.{statement}
 use Rattle.base.proofs.clear_bytes.Tie as tie
@@ -13,7 +13,7 @@ abbrev decreases-loop : tie.decreases-loop
 decreases-loop bytes₀ from i₀ bytes i = length bytes₀ - i
 
 loop-holds : tie.Need-loop-init invariant-loop decreases-loop
-loop-holds c = clearing-begins 0 _ _
+loop-holds c = clearing_begins 0 _ _
 
 slice-write-bytes : tie.Need-slice-write-bytes invariant-loop decreases-loop
 slice-write-bytes c = search rules
@@ -25,13 +25,13 @@ loop-less : tie.Need-loop-smaller invariant-loop decreases-loop
 loop-less c = search rules
 
 loop-again : tie.Need-loop-preserved invariant-loop decreases-loop
-loop-again c = clearing-more 0 c.before.loop.invariant c.loop-test.true
+loop-again c = clearing_more 0 c.before.loop.invariant c.loop-test.true
 
 same_length : tie.Need-same-length invariant-loop decreases-loop
 same_length c = c.before.loop.invariant.same
 
 returns : tie.Need-returns invariant-loop decreases-loop
-returns c = clearing-ends 0 c.before.loop.invariant c.loop-test.false
+returns c = clearing_ends 0 c.before.loop.invariant c.loop-test.false
 
 pub clear-bytes-spec : {M : Type 1} → statement M
 clear-bytes-spec =

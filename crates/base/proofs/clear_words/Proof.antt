@@ -1,7 +1,7 @@
 -- `base::clear_words` meets its contract: the invariant is `Clearing`. The measure is what is left.
 use Prim.Native.Nat.{◌-◌}
 use lib.ListN.{length}
-use Rattle.base.specs.Clearing.{Clearing, clearing-begins, clearing-more, clearing-ends}
+use Rattle.base.specs.Clearing.{Clearing, clearing_begins, clearing_more, clearing_ends}
 use borrow.Author.Rules.{rules}
 use Rattle.base.proofs.clear_words.Statement.{statement}
 use Rattle.base.proofs.clear_words.Tie as tie
@@ -13,7 +13,7 @@ abbrev decreases-loop : tie.decreases-loop
 decreases-loop buffer₀ from i₀ buffer i = length buffer₀ - i
 
 loop-holds : tie.Need-loop-init invariant-loop decreases-loop
-loop-holds c = clearing-begins 0 _ _
+loop-holds c = clearing_begins 0 _ _
 
 mul-buffer : tie.Need-overflow-mul-buffer invariant-loop decreases-loop
 mul-buffer c = search rules
@@ -28,13 +28,13 @@ loop-less : tie.Need-loop-smaller invariant-loop decreases-loop
 loop-less c = search rules
 
 loop-again : tie.Need-loop-preserved invariant-loop decreases-loop
-loop-again c = clearing-more 0 c.before.loop.invariant c.loop-test.true
+loop-again c = clearing_more 0 c.before.loop.invariant c.loop-test.true
 
 same_length : tie.Need-same-length invariant-loop decreases-loop
 same_length c = c.before.loop.invariant.same
 
 returns : tie.Need-returns invariant-loop decreases-loop
-returns c = clearing-ends 0 c.before.loop.invariant c.loop-test.false
+returns c = clearing_ends 0 c.before.loop.invariant c.loop-test.false
 
 pub clear-words-spec : {M : Type 1} → statement M
 clear-words-spec =

@@ -4,19 +4,19 @@ use Prim.Native.Nat.{◌+◌, ◌*◌, ◌-◌, ◌≤◌}
 use native.Mathlib.Omega.{arith}
 use mathlib.Core.Path.{◌≡◌, sym, ap, ap₂, ◌∙◌}
 use borrow.Author.Rules.{rules}
-use Rattle.grammar.specs.File.{weightedSum}
-use Rattle.grammar.specs.theory.Files.{sum-none, sum_more}
+use Rattle.grammar.specs.File.{weighted_sum}
+use Rattle.grammar.specs.Theory.Files.{sum_none, sum_more}
 use Rattle.block.proofs.weighted_sum.Statement.{statement}
 use Rattle.block.proofs.weighted_sum.Tie as tie
 
 abbrev invariant-loop : tie.invariant-loop
-invariant-loop bytes start size sum₀ i₀ sum i = (i ≤ size) × (sum ≡ weightedSum bytes start i) × (sum ≤ 130050 * i)
+invariant-loop bytes start size sum₀ i₀ sum i = (i ≤ size) × (sum ≡ weighted_sum bytes start i) × (sum ≤ 130050 * i)
 
 abbrev decreases-loop : tie.decreases-loop
 decreases-loop bytes start size sum₀ i₀ sum i = size - i
 
 loop-holds : tie.Need-loop-init invariant-loop decreases-loop
-loop-holds c = (omega arith, sym (sum-none _ _), omega arith)
+loop-holds c = (omega arith, sym (sum_none _ _), omega arith)
 
 add-weighted : tie.Need-overflow-add-weighted invariant-loop decreases-loop
 add-weighted c = search rules
@@ -44,7 +44,7 @@ loop-again c =
 returns : tie.Need-returns invariant-loop decreases-loop
 returns c =
     let end : c.before.loop.i ≡ c.before.before.before.args.size = omega arith in
-    c.before.loop.invariant.1 ∙ ap (weightedSum _ _) end
+    c.before.loop.invariant.1 ∙ ap (weighted_sum _ _) end
 
 pub weighted-sum-spec : {M : Type 1} → statement M
 weighted-sum-spec =

@@ -2,18 +2,18 @@ use borrow.Author.Rules.{rules}
 use native.Mathlib.Omega.{arith}
 use Prim.Native.Nat.{◌-◌, ◌+◌}
 use mathlib.Core.Path.{ap}
-use Rattle.grammar.specs.theory.Tables.{sizedOf, limitBy}
+use Rattle.grammar.specs.Theory.Tables.{sized_of, limit_by}
 use Rattle.moves.specs.Pile.{pile}
 use Rattle.correction.specs.Searching.{
   Walked,
-  token-below,
+  token_below,
   symbol_low,
-  seek-none,
-  seek-more,
-  seek-fits,
+  seek_none,
+  seek_more,
+  seek_fits,
   seek_hit,
-  seek-dear,
-  seek-all,
+  seek_dear,
+  seek_all,
 }
 use Rattle.correction.proofs.seek.Statement.{statement}
 use Rattle.correction.proofs.seek.Tie as tie
@@ -24,7 +24,7 @@ use Rattle.correction.proofs.token_at.Reads as token-at-reads
 use Rattle.moves.proofs.begins.Reads as begins-reads
 
 abbrev invariant-loop : tie.invariant-loop
-invariant-loop words log masks prices stack height r t limit cost₀ i₀ cost i = Walked (sizedOf words) prices (pile stack height) t i cost
+invariant-loop words log masks prices stack height r t limit cost₀ i₀ cost i = Walked (sized_of words) prices (pile stack height) t i cost
 
 abbrev decreases-loop : tie.decreases-loop
 decreases-loop words log masks prices stack height r t limit cost₀ i₀ cost i = height - i
@@ -41,7 +41,7 @@ add-limit c = omega (arith, c.wide.ensures.1)
 mul-limit : tie.Need-overflow-mul-limit invariant-loop decreases-loop
 mul-limit c =
     let pre = c.before.before.before.before.before.before.before.requires in
-    omega (arith, c.wide.ensures.0, token-below pre _ _ c.before.token-at.ensures)
+    omega (arith, c.wide.ensures.0, token_below pre _ _ c.before.token-at.ensures)
 
 shared-slice-read-limit : tie.Need-shared-slice-read-limit invariant-loop decreases-loop
 shared-slice-read-limit c =
@@ -49,14 +49,14 @@ shared-slice-read-limit c =
     omega (
       arith,
       c.before.wide.ensures.0,
-      token-below pre _ _ c.before.before.token-at.ensures,
-      pre.known.shared.prices-size,
+      token_below pre _ _ c.before.before.token-at.ensures,
+      pre.known.shared.prices_size,
     )
 
 loop-holds : tie.Need-loop-init invariant-loop decreases-loop
 loop-holds c =
     let pre = c.before.before.before.before.before.before.before.before.requires in
-    seek-none pre _ _ c.before.before.token-at.ensures
+    seek_none pre _ _ c.before.before.token-at.ensures
 
 returns : tie.Need-returns invariant-loop decreases-loop
 returns c =
@@ -64,7 +64,7 @@ returns c =
     let start = c.before.before.before.before.before.before.before.before.before.before.before in
     let token-at = c.before.before.before.before.before.token-at in
     let wide = c.before.before.before.before.wide in
-    seek-dear pre _ _ token-at.ensures _ _ _ (ap (λ k. limitBy start.args.prices.now k) wide.ensures.0)
+    seek_dear pre _ _ token-at.ensures _ _ _ (ap (λ k. limit_by start.args.prices.now k) wide.ensures.0)
     c.if1.true c.before.before.loop.invariant
 
 sub-symbol : tie.Need-overflow-sub-symbol invariant-loop decreases-loop
@@ -86,8 +86,8 @@ begins-requires c κs =
     let pre = c.before.before.before.before.before.before.before.before.before.before.before.before.requires in
     let token-at = c.before.before.before.before.before.before.token-at in (
       symbol_low pre _ _ token-at.ensures _ c.before.before.loop-test.true,
-      token-below pre _ _ token-at.ensures,
-      omega (arith, pre.known.shared.sets-size),
+      token_below pre _ _ token-at.ensures,
+      omega (arith, pre.known.shared.sets_size),
     )
 
 returns-2 : tie.Need-returns-2 invariant-loop decreases-loop
@@ -100,7 +100,7 @@ returns-2 c =
     let loop-test = c.before.before.before.before.loop-test in
     let if1 = c.before.before.before.if1 in
     seek_hit pre _ _ token-at.ensures _ _ _ loop-test.true c.before.begins.ensures c.if2.true
-    (ap (λ k. limitBy start.args.prices.now k) wide.ensures.0) if1.false loop.invariant
+    (ap (λ k. limit_by start.args.prices.now k) wide.ensures.0) if1.false loop.invariant
 
 wide-requires-2 : tie.Need-wide-requires-2 invariant-loop decreases-loop
 wide-requires-2 c κs = search rules
@@ -121,7 +121,7 @@ shared-slice-read-cost c =
       arith,
       c.before.wide2.ensures.0,
       symbol_low pre _ _ token-at.ensures _ loop-test.true,
-      pre.known.shared.prices-size,
+      pre.known.shared.prices_size,
     )
 
 add-cost : tie.Need-overflow-add-cost invariant-loop decreases-loop
@@ -130,7 +130,7 @@ add-cost c =
     let token-at = c.before.before.before.before.before.before.before.before.before.before.token-at in
     let loop = c.before.before.before.before.before.before.before.loop in
     let loop-test = c.before.before.before.before.before.before.loop-test in
-    omega (arith, seek-fits pre _ _ token-at.ensures _ _ _ loop-test.true c.before.wide2.ensures.0 loop.invariant)
+    omega (arith, seek_fits pre _ _ token-at.ensures _ _ _ loop-test.true c.before.wide2.ensures.0 loop.invariant)
 
 add-i : tie.Need-overflow-add-i invariant-loop decreases-loop
 add-i c =
@@ -147,7 +147,7 @@ loop-again c =
     let loop = c.before.before.before.before.before.before.before.loop in
     let loop-test = c.before.before.before.before.before.before.loop-test in
     let begins = c.before.before.before.begins in
-    seek-more pre _ _ token-at.ensures _ _ _ loop-test.true begins.ensures c.before.before.if2.false
+    seek_more pre _ _ token-at.ensures _ _ _ loop-test.true begins.ensures c.before.before.if2.false
     c.before.wide2.ensures.0
     loop.invariant
 
@@ -155,7 +155,7 @@ returns-3 : tie.Need-returns-3 invariant-loop decreases-loop
 returns-3 c =
     let pre = c.before.before.before.before.before.before.before.before.before.before.requires in
     let token-at = c.before.before.before.before.token-at in
-    seek-all pre _ _ token-at.ensures _ _ c.loop-test.false c.before.loop.invariant
+    seek_all pre _ _ token-at.ensures _ _ c.loop-test.false c.before.loop.invariant
 
 pub seek-spec : {M : Type 1} → statement M
 seek-spec =

@@ -2,7 +2,7 @@
 use native.Mathlib.Omega.{arith}
 use lib.ListN.{length-set}
 use borrow.Author.Rules.{rules}
-use Rattle.correction.specs.Records.{recorded-whole, recorded-full}
+use Rattle.correction.specs.Records.{recorded_whole, recorded_full}
 use Rattle.correction.proofs.write_record.Statement.{statement}
 use Rattle.correction.proofs.write_record.Tie as tie
 
@@ -43,10 +43,10 @@ same_length : tie.Need-same-length
 same_length c = search rules
 
 returns : tie.Need-returns
-returns c = recorded-whole _ _ _ _ _ (omega arith)
+returns c = recorded_whole _ _ _ _ _ (omega arith)
 
 returns-2 : tie.Need-returns-2
-returns-2 c = recorded-full _ _ _ _ _ (omega arith)
+returns-2 c = recorded_full _ _ _ _ _ (omega arith)
 
 pub write-record-spec : {M : Type 1} → statement M
 write-record-spec =

@@ -5,7 +5,7 @@ use native.Mathlib.Omega.{arith}
 use Prim.Native.Nat.{◌-◌, ◌≤◌}
 use mathlib.Core.Path.{sym, ◌∙◌}
 use Rattle.costs.specs.Held.{Begun}
-use Rattle.costs.proofs.Beginning.{nonterminals-go, nonterminals-end}
+use Rattle.costs.proofs.Beginning.{nonterminals_go, nonterminals_end}
 use Rattle.costs.proofs.begin_nonterminals.Statement.{statement}
 use Rattle.costs.proofs.begin_nonterminals.Tie as tie
 
@@ -24,17 +24,17 @@ loop-holds c = (omega arith, c.before.before.before.requires.1)
 add-table : tie.Need-overflow-add-table invariant-loop decreases-loop
 add-table c =
     let count = c.before.before.nonterminal-count.ensures in
-    omega (arith, c.before.before.before.before.before.requires.0.nonterminals-high)
+    omega (arith, c.before.before.before.before.before.requires.0.nonterminals_high)
 
 mul-table : tie.Need-overflow-mul-table invariant-loop decreases-loop
 mul-table c =
     let count = c.before.before.nonterminal-count.ensures in
-    omega (arith, c.before.before.before.before.before.requires.0.nonterminals-high)
+    omega (arith, c.before.before.before.before.before.requires.0.nonterminals_high)
 
 slice-write-table : tie.Need-slice-write-table invariant-loop decreases-loop
 slice-write-table c =
     let count = c.before.before.nonterminal-count.ensures in
-    omega (arith, c.before.before.before.before.before.requires.0.nonterminals-high, c.before.loop.invariant.1.size)
+    omega (arith, c.before.before.before.before.before.requires.0.nonterminals_high, c.before.loop.invariant.1.size)
 
 add-k : tie.Need-overflow-add-k invariant-loop decreases-loop
 add-k c = search rules
@@ -46,7 +46,7 @@ loop-again : tie.Need-loop-preserved invariant-loop decreases-loop
 loop-again c =
     let start = c.before.before.before.before.before in
     let count = c.before.before.nonterminal-count.ensures in
-    (omega arith, nonterminals-go start.requires.0 c.before.loop.invariant.1 (omega (arith, start.requires.0.nonterminals-high)))
+    (omega arith, nonterminals_go start.requires.0 c.before.loop.invariant.1 (omega (arith, start.requires.0.nonterminals_high)))
 
 same_length : tie.Need-same-length invariant-loop decreases-loop
 same_length c = c.before.loop.invariant.1.size ∙ sym c.before.before.before.before.before.requires.1.size
@@ -55,7 +55,7 @@ returns : tie.Need-returns invariant-loop decreases-loop
 returns c =
     let loop = c.before.loop in
     let count = c.before.before.nonterminal-count.ensures in
-    nonterminals-end c.before.before.before.before.before.requires.0 loop.invariant.1 (omega (arith, loop.invariant.0))
+    nonterminals_end c.before.before.before.before.before.requires.0 loop.invariant.1 (omega (arith, loop.invariant.0))
 
 pub begin-nonterminals-spec : {M : Type 1} → statement M
 begin-nonterminals-spec =

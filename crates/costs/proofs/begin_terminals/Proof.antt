@@ -3,7 +3,7 @@ use borrow.Author.Rules.{rules}
 use native.Mathlib.Omega.{arith}
 use Prim.Native.Nat.{◌-◌, ◌≤◌}
 use mathlib.Core.Path.{sym, ◌∙◌}
-use Rattle.costs.proofs.Beginning.{Filled, terminals-begin, terminals-go, terminals-end}
+use Rattle.costs.proofs.Beginning.{Filled, terminals_begin, terminals_go, terminals_end}
 use Rattle.costs.proofs.begin_terminals.Statement.{statement}
 use Rattle.costs.proofs.begin_terminals.Tie as tie
 
@@ -20,7 +20,7 @@ terminals-at-requires : tie.Need-terminals-at-requires invariant-loop decreases-
 terminals-at-requires c κs = c.before.before.before.requires.0
 
 loop-holds : tie.Need-loop-init invariant-loop decreases-loop
-loop-holds c = (omega arith, terminals-begin _ c.before.before.before.before.requires.1)
+loop-holds c = (omega arith, terminals_begin _ c.before.before.before.before.requires.1)
 
 insert-cost-requires : tie.Need-insert-cost-requires invariant-loop decreases-loop
 insert-cost-requires c κs =
@@ -40,14 +40,14 @@ mul-table : tie.Need-overflow-mul-table invariant-loop decreases-loop
 mul-table c =
     let at-terminal-count = c.before.before.before.before.before in
     let start = at-terminal-count.before.before.before in
-    omega (arith, at-terminal-count.terminal-count.ensures, start.requires.0.terminals-high)
+    omega (arith, at-terminal-count.terminal-count.ensures, start.requires.0.terminals_high)
 
 slice-write-table : tie.Need-slice-write-table invariant-loop decreases-loop
 slice-write-table c =
     let turn = c.before.before.before in
     let at-terminal-count = turn.before.before in
     let start = at-terminal-count.before.before.before in
-    omega (arith, at-terminal-count.terminal-count.ensures, start.requires.0.terminals-high, turn.loop.invariant.1.size)
+    omega (arith, at-terminal-count.terminal-count.ensures, start.requires.0.terminals_high, turn.loop.invariant.1.size)
 
 add-t : tie.Need-overflow-add-t invariant-loop decreases-loop
 add-t c = search rules
@@ -62,7 +62,7 @@ loop-again c =
     let start = at-terminal-count.before.before.before in
     let count = at-terminal-count.terminal-count.ensures in (
       omega arith,
-      terminals-go turn.loop.invariant.1 (omega (arith, start.requires.0.terminals-high))
+      terminals_go turn.loop.invariant.1 (omega (arith, start.requires.0.terminals_high))
           (c.long.ensures.0 ∙ c.before.insert-cost.ensures),
     )
 
@@ -73,7 +73,7 @@ returns : tie.Need-returns invariant-loop decreases-loop
 returns c =
     let at-terminal-count = c.before.before.before in
     let start = at-terminal-count.before.before.before in
-    terminals-end start.requires.0 c.before.loop.invariant.1
+    terminals_end start.requires.0 c.before.loop.invariant.1
     (omega (arith, at-terminal-count.terminal-count.ensures, c.before.loop.invariant.0))
 
 pub begin-terminals-spec : {M : Type 1} → statement M

@@ -4,8 +4,8 @@ use native.Mathlib.Omega.{arith}
 use Prim.Native.Nat.{◌<◌, ◌^◌}
 use mathlib.Core.Path.{◌≡◌, refl, sym, ap, ◌∙◌, subst}
 use Rattle.sets.specs.Operations.{union}
-use Rattle.costs.specs.Settled.{stands-costed}
-use Rattle.costs.proofs.Listing.{Listing, left, spans, list-begins, list-goes, list-ends, list-less}
+use Rattle.costs.specs.Settled.{stands_costed}
+use Rattle.costs.proofs.Listing.{Listing, left, spans, list_begins, list_goes, list_ends, list_less}
 use Rattle.costs.proofs.costs.Statement.{statement}
 use Rattle.costs.proofs.costs.Tie as tie
 
@@ -30,15 +30,15 @@ add-size c = search rules
 
 visit-row-requires : tie.Need-visit-row-requires invariant-loop decreases-loop
 visit-row-requires c κs =
-    let by-begin = c.before.before.before.before.begin in
+    let by_begin = c.before.before.before.before.begin in
     let start = c.before.before.before.before.before.before.before.before.before.before in
-    (start.requires.0, (start.requires.1.0, (omega arith, (spans start.requires.1.0 c.before.rule-count.ensures, by-begin.ensures.held))))
+    (start.requires.0, (start.requires.1.0, (omega arith, (spans start.requires.1.0 c.before.rule-count.ensures, by_begin.ensures.held))))
 
 loop-holds : tie.Need-loop-init invariant-loop decreases-loop
 loop-holds c =
-    let by-begin = c.before.before.before.before.before.before.before.begin in
+    let by_begin = c.before.before.before.before.before.before.before.begin in
     let start = c.before.before.before.before.before.before.before.before.before.before.before.before.before in
-    list-begins start.requires.0.shaped by-begin.ensures start.requires.1.0 c.before.before.visit-row.ensures
+    list_begins start.requires.0.shaped by_begin.ensures start.requires.1.0 c.before.before.visit-row.ensures
 
 greatest-requires : tie.Need-greatest-requires invariant-loop decreases-loop
 greatest-requires c κs = c.loop-test.true
@@ -76,7 +76,7 @@ loop-less c =
     let is = c.union.ensures ∙ ap (λ n. union n by-visit-row2.result) c.before.without.ensures in
     let small : c.union.result < 2 ^ 64 = search rules in
     subst (λ n. left by-visit-row2.new.1.1.1.1.1.0 n < left loop.table loop.list) (sym is)
-    (list-less by-greatest.ensures by-visit-row2.ensures (subst (λ n. n < 2 ^ 64) is small))
+    (list_less by-greatest.ensures by-visit-row2.ensures (subst (λ n. n < 2 ^ 64) is small))
 
 loop-again : tie.Need-loop-preserved invariant-loop decreases-loop
 loop-again c =
@@ -85,7 +85,7 @@ loop-again c =
     let loop = c.before.before.before.before.before.before.before.before.loop in
     let start = c.before.before.before.before.before.before.before.before.before.before.before.before.before.before.before.before.before.before.before.before.before.before in
     rw c.union.ensures (rw c.before.without.ensures
-    (list-goes start.requires.1.0 loop.invariant by-greatest.ensures by-visit-row2.ensures))
+    (list_goes start.requires.1.0 loop.invariant by-greatest.ensures by-visit-row2.ensures))
 
 same_length : tie.Need-same-length invariant-loop decreases-loop
 same_length c =
@@ -95,7 +95,7 @@ same_length c =
 returns : tie.Need-returns invariant-loop decreases-loop
 returns c =
     let start = c.before.before.before.before.before.before.before.before.before.before.before.before.before.before.before in
-    stands-costed _ _ start.requires.0.shaped (list-ends c.before.loop.invariant (omega (arith, c.loop-test.false)))
+    stands_costed _ _ start.requires.0.shaped (list_ends c.before.loop.invariant (omega (arith, c.loop-test.false)))
 
 pub costs-spec : {M : Type 1} → statement M
 costs-spec =

@@ -2,7 +2,7 @@
 use borrow.Author.Rules.{rules}
 use native.Mathlib.Omega.{arith}
 use Rattle.costs.specs.Held.{entry}
-use Rattle.costs.proofs.Summing.{Summed, sum-none, sum_more, sum-all}
+use Rattle.costs.proofs.Summing.{Summed, sum_none, sum_more, sum_all}
 use Rattle.costs.proofs.rule_cost.Statement.{statement}
 use Rattle.costs.proofs.rule_cost.Tie as tie
 
@@ -18,7 +18,7 @@ size-of-requires c κs =
     (start.requires.0, start.requires.1.0)
 
 loop-holds : tie.Need-loop-init invariant-loop decreases-loop
-loop-holds c = sum-none _ c.type_size.ensures
+loop-holds c = sum_none _ c.type_size.ensures
 
 sub-i : tie.Need-overflow-sub-i invariant-loop decreases-loop
 sub-i c = search rules
@@ -29,21 +29,21 @@ symbol-at-requires c κs =
     (start.requires.0, (start.requires.1.0, omega (arith, c.before.loop.invariant.inside)))
 
 cast-sum : tie.Need-overflow-cast-sum invariant-loop decreases-loop
-cast-sum c = omega (arith, c.symbol-at.ensures.small)
+cast-sum c = omega (arith, c.symbol_at.ensures.small)
 
 mul-sum : tie.Need-overflow-mul-sum invariant-loop decreases-loop
-mul-sum c = omega (arith, c.symbol-at.ensures.small)
+mul-sum c = omega (arith, c.symbol_at.ensures.small)
 
 shared-slice-read-sum : tie.Need-shared-slice-read-sum invariant-loop decreases-loop
 shared-slice-read-sum c =
     let start = c.before.before.before.before.before.before.before.before in
-    omega (arith, c.before.symbol-at.ensures.small, start.requires.1.1.size)
+    omega (arith, c.before.symbol_at.ensures.small, start.requires.1.1.size)
 
 add-sum : tie.Need-overflow-add-sum invariant-loop decreases-loop
 add-sum c =
     let turn = c.before.before.before in
     let start = turn.before.before.before.before.before in
-    omega (arith, turn.loop.invariant.room, start.requires.1.1.limit c.before.symbol-at.result)
+    omega (arith, turn.loop.invariant.room, start.requires.1.1.limit c.before.symbol_at.result)
 
 loop-less : tie.Need-loop-smaller invariant-loop decreases-loop
 loop-less c = search rules
@@ -52,11 +52,11 @@ loop-again : tie.Need-loop-preserved invariant-loop decreases-loop
 loop-again c =
     let turn = c.before.before.before in
     let start = turn.before.before.before.before.before in
-    sum_more turn.loop.invariant c.before.before.loop-test.true c.before.symbol-at.ensures
-    (start.requires.1.1.limit c.before.symbol-at.result)
+    sum_more turn.loop.invariant c.before.before.loop-test.true c.before.symbol_at.ensures
+    (start.requires.1.1.limit c.before.symbol_at.result)
 
 returns : tie.Need-returns invariant-loop decreases-loop
-returns c = sum-all c.before.loop.invariant c.loop-test.false
+returns c = sum_all c.before.loop.invariant c.loop-test.false
 
 pub rule-cost-spec : {M : Type 1} → statement M
 rule-cost-spec =

@@ -4,7 +4,7 @@ use native.Mathlib.Omega.{arith}
 use Prim.Native.Nat.{◌+◌}
 use mathlib.Core.Path.{◌≡◌, sym, ◌∙◌, subst}
 use lib.ListN.{length-set}
-use Rattle.costs.specs.Held.{held-limited}
+use Rattle.costs.specs.Held.{held_limited}
 use Rattle.costs.specs.Visiting.{Capped}
 use Rattle.costs.proofs.Lowering.{kept, written}
 use borrow.Author.Rules.{rules}
@@ -14,7 +14,7 @@ use Rattle.costs.proofs.visit.Tie as tie
 rule-cost-requires : tie.Need-rule-cost-requires
 rule-cost-requires c κs =
     let start = c.before.before.before.before in
-    (start.requires.0, (start.requires.1.0, held-limited start.requires.1.1))
+    (start.requires.0, (start.requires.1.0, held_limited start.requires.1.1))
 
 capped-requires : tie.Need-capped-requires
 capped-requires c κs = search rules
@@ -54,7 +54,7 @@ same_length c = search rules
 
 returns : tie.Need-returns
 returns c =
-    let by-left-of = c.before.before.before.before.left-of in
+    let by-left-of = c.before.before.before.before.left_of in
     let by-capped = c.before.before.before.before.before.capped in
     let by-rule-cost = c.before.before.before.before.before.before.rule-cost in
     let start = c.before.before.before.before.before.before.before.before.before.before.before in
@@ -82,7 +82,7 @@ mul-table-2 c = search rules
 
 slice-write-table-2 : tie.Need-slice-write-table-2
 slice-write-table-2 c =
-    let by-left-of = c.before.before.before.before.before.left-of in
+    let by-left-of = c.before.before.before.before.before.left_of in
     let by-capped = c.before.before.before.before.before.before.capped in
     let start = c.before.before.before.before.before.before.before.before.before.before.before.before in
     omega (
@@ -100,7 +100,7 @@ same-length-2 c = search rules
 
 returns-2 : tie.Need-returns-2
 returns-2 c =
-    let by-left-of = c.before.before.before.before.before.before.left-of in
+    let by-left-of = c.before.before.before.before.before.before.left_of in
     let by-capped = c.before.before.before.before.before.before.before.capped in
     let by-rule-cost = c.before.before.before.before.before.before.before.before.rule-cost in
     let start = c.before.before.before.before.before.before.before.before.before.before.before.before.before in

@@ -3,7 +3,7 @@ use borrow.Author.Rules.{rules}
 use native.Mathlib.Omega.{arith}
 use Prim.Native.Nat.{◌+◌, ◌*◌, ◌-◌, ◌≤◌}
 use mathlib.Core.Path.{◌≡◌, refl, sym, ◌∙◌, subst}
-use Rattle.costs.specs.Visiting.{Rowing, row-begins, row_goes, row_ends, row-rules}
+use Rattle.costs.specs.Visiting.{Rowing, row_begins, row_goes, row_ends, row_rules}
 use Rattle.costs.proofs.visit_row.Statement.{statement}
 use Rattle.costs.proofs.visit_row.Tie as tie
 
@@ -16,7 +16,7 @@ decreases-loop words places mentions row size table₀ fallen₀ w₀ table fall
 loop-holds : tie.Need-loop-init invariant-loop decreases-loop
 loop-holds c =
     let start = c.before.before.before.before in
-    (omega arith, row-begins start.args.mentions.now start.args.row start.requires.1.1.1.1)
+    (omega arith, row_begins start.args.mentions.now start.args.row start.requires.1.1.1.1)
 
 mul-visit-word : tie.Need-overflow-mul-visit-word invariant-loop decreases-loop
 mul-visit-word c =
@@ -43,7 +43,7 @@ visit-word-requires c κs =
     let start = c.before.before.before.before.before.before.before.before in (
       start.requires.0,
       (
-        row-rules c.before.before.before.loop.w start.requires.1.0 start.requires.1.1.0,
+        row_rules c.before.before.before.loop.w start.requires.1.0 start.requires.1.1.0,
         c.before.before.before.loop.invariant.1.held,
       ),
     )

@@ -3,7 +3,7 @@ use borrow.Author.Rules.{rules}
 use native.Mathlib.Omega.{arith}
 use Prim.Native.Nat.{◌+◌, ◌-◌, ◌≤◌}
 use mathlib.Core.Path.{refl}
-use Rattle.desk.proofs.Listing.{Copied, copy-begins, copy_goes, copy-ends}
+use Rattle.desk.proofs.Listing.{Copied, copy_begins, copy_goes, copy_ends}
 use Rattle.desk.proofs.copy.Statement.{statement}
 use Rattle.desk.proofs.copy.Tie as tie
 
@@ -14,7 +14,7 @@ abbrev decreases-loop : tie.decreases-loop
 decreases-loop table from count words₀ i₀ words i = count - i
 
 loop-holds : tie.Need-loop-init invariant-loop decreases-loop
-loop-holds c = (omega arith, copy-begins _ _ _)
+loop-holds c = (omega arith, copy_begins _ _ _)
 
 add_words : tie.Need-overflow-add-words invariant-loop decreases-loop
 add_words c = omega (arith, c.before.before.requires.0)
@@ -53,7 +53,7 @@ same_length : tie.Need-same-length invariant-loop decreases-loop
 same_length c = c.before.loop.invariant.1.same
 
 returns : tie.Need-returns invariant-loop decreases-loop
-returns c = copy-ends c.before.before.args.count c.before.loop.invariant.1 (omega (arith, c.before.loop.invariant.0))
+returns c = copy_ends c.before.before.args.count c.before.loop.invariant.1 (omega (arith, c.before.loop.invariant.0))
 
 pub copy_spec : {M : Type 1} → statement M
 copy_spec =

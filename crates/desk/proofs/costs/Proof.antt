@@ -1,8 +1,8 @@
 -- `desk::costs` meets its contract: both buffers are clear when the words are judged, and stay so where they are refused.
 use borrow.Author.Rules.{rules}
-use Rattle.grammar.specs.theory.Fills.{made-clear, lent-clear}
-use Rattle.base.specs.Blank.{blank-made}
-use Rattle.verdict.specs.Answer.{verdict-in}
+use Rattle.grammar.specs.Theory.Fills.{made_clear, lent_clear}
+use Rattle.base.specs.Blank.{blank_made}
+use Rattle.verdict.specs.Answer.{verdict_in}
 use Rattle.desk.proofs.Listing.{unchecked, as_lent}
 use Rattle.desk.proofs.costs.Statement.{statement}
 use Rattle.desk.proofs.costs.Tie as tie
@@ -17,7 +17,7 @@ slice-aggregate-priced : tie.Need-slice-aggregate-priced
 slice-aggregate-priced c = search rules
 
 priced-requires : tie.Need-priced-requires
-priced-requires c κs = blank-made 192
+priced-requires c κs = blank_made 192
 
 enum_told : tie.Need-enum-told
 enum_told c = search rules
@@ -33,10 +33,10 @@ list-requires c κs =
     let second = at-priced.before.before.before.before.clear-words2 in
     let first = at-priced.before.before.before.before.before.before.before.before.clear-words in
     record {
-      accepts = verdict-in priced accepted;
+      accepts = verdict_in priced accepted;
       priced = priced.known accepted;
-      costs-clear = lent-clear first.auto.0 (made-clear _ first.ensures);
-      rules-clear = lent-clear second.auto.0 (made-clear _ second.ensures);
+      costs_clear = lent_clear first.auto.0 (made_clear _ first.ensures);
+      rules_clear = lent_clear second.auto.0 (made_clear _ second.ensures);
     }
 
 enum-known-checked : tie.Need-enum-known-checked
@@ -64,8 +64,8 @@ returns-2 : tie.Need-returns-2
 returns-2 c =
     let at-priced = c.before.before.before.before in
     let at_clear = at-priced.before.before.before.before in
-    unchecked _ _ (made-clear _ at_clear.before.before.before.before.clear-words.ensures)
-    (made-clear _ at_clear.clear-words2.ensures) (verdict-in at-priced.priced.ensures c.before.checked.given.1)
+    unchecked _ _ (made_clear _ at_clear.before.before.before.before.clear-words.ensures)
+    (made_clear _ at_clear.clear-words2.ensures) (verdict_in at-priced.priced.ensures c.before.checked.given.1)
 
 pub costs-spec : {M : Type 1} → statement M
 costs-spec =

@@ -1,7 +1,7 @@
 -- `desk::list` meets its contract: either buffer is too short, or costs and rules are copied in front of zeros.
 use borrow.Author.Rules.{rules}
 use native.Mathlib.Omega.{arith}
-use Rattle.desk.proofs.Listing.{short, lists, table-words}
+use Rattle.desk.proofs.Listing.{short, lists, table_words}
 use Rattle.desk.proofs.list.Statement.{statement}
 use Rattle.desk.proofs.list.Tie as tie
 
@@ -12,25 +12,25 @@ returns : tie.Need-returns
 returns c =
     let can = c.before.before.before.before.before.before.requires in
     let count = c.before.nonterminal-count.ensures in
-    short _ _ can.costs-clear can.rules-clear can.accepts (λ fits. omega (arith, fits.0))
+    short _ _ can.costs_clear can.rules_clear can.accepts (λ fits. omega (arith, fits.0))
 
 returns-2 : tie.Need-returns-2
 returns-2 c =
     let can = c.before.before.before.before.before.before.before.requires in
     let count = c.before.before.nonterminal-count.ensures in
-    short _ _ can.costs-clear can.rules-clear can.accepts (λ fits. omega (arith, fits.1))
+    short _ _ can.costs_clear can.rules_clear can.accepts (λ fits. omega (arith, fits.1))
 
 copy-requires : tie.Need-copy-requires
 copy-requires c κs =
     let can = c.before.before.before.before.before.before.before.before.requires in
     let count = c.before.before.before.nonterminal-count.ensures in
-    (omega (arith, can.priced.costed.size, can.priced.shaped.nonterminals-high), (omega arith, table-words can.priced))
+    (omega (arith, can.priced.costed.size, can.priced.shaped.nonterminals_high), (omega arith, table_words can.priced))
 
 copy-requires-2 : tie.Need-copy-requires-2
 copy-requires-2 c κs =
     let can = c.before.before.before.before.before.before.before.before.before.before.before.before.requires in
     let count = c.before.before.before.before.before.before.before.nonterminal-count.ensures in
-    (omega (arith, can.priced.costed.size, can.priced.shaped.nonterminals-high), (omega arith, table-words can.priced))
+    (omega (arith, can.priced.costed.size, can.priced.shaped.nonterminals_high), (omega arith, table_words can.priced))
 
 same_length : tie.Need-same-length
 same_length c = search rules

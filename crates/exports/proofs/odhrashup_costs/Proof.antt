@@ -1,7 +1,7 @@
 -- `exports::odhrashup_costs` meets its contract: one count over a cleared buffer, or the buffer cleared.
 use mathlib.Core.Path.{ap, refl}
-use Rattle.desk.specs.Answer.{deskOf}
-use Rattle.exports.proofs.Answers.{answers, refuses, one-count}
+use Rattle.desk.specs.Answer.{desk_of}
+use Rattle.exports.proofs.Answers.{answers, refuses, one_count}
 use borrow.Author.Rules.{rules}
 use Rattle.exports.proofs.odhrashup_costs.Statement.{statement}
 use Rattle.exports.proofs.odhrashup_costs.Tie as tie
@@ -39,8 +39,8 @@ returns c =
     let at-answer = at-put.before.before.before in
     let at-costs = at-answer.before.before.before.before.before.before in
     let at_clear = at-costs.before.before.before.before.before in
-    answers at-costs.costs.ensures (ap deskOf at-answer.answer.given.1) refl
-    (one-count _ _ at_clear.clear-numbers.ensures at-put.put.ensures)
+    answers at-costs.costs.ensures (ap desk_of at-answer.answer.given.1) refl
+    (one_count _ _ at_clear.clear-numbers.ensures at-put.put.ensures)
 
 same-length-4 : tie.Need-same-length-4
 same-length-4 c = search rules
@@ -56,7 +56,7 @@ returns-2 c =
     let at-answer = c.before.before in
     let at-costs = at-answer.before.before.before.before.before.before in
     let at_clear = at-costs.before.before.before.before.before in
-    refuses at-costs.costs.ensures (ap deskOf at-answer.answer2.given.1) at_clear.clear-numbers.ensures
+    refuses at-costs.costs.ensures (ap desk_of at-answer.answer2.given.1) at_clear.clear-numbers.ensures
     c.number_of_lem.ensures
 
 pub odhrashup-costs-spec : {M : Type 1} → statement M

@@ -1,8 +1,8 @@
 -- `exports::odhrashup_marks` meets its contract: four counts over a cleared buffer, or the buffer cleared.
 use native.Mathlib.Omega.{arith}
 use mathlib.Core.Path.{ap, refl}
-use Rattle.marks.specs.Answer.{markingOf}
-use Rattle.exports.proofs.Answers.{answers, refuses, four-counts}
+use Rattle.marks.specs.Answer.{marking_of}
+use Rattle.exports.proofs.Answers.{answers, refuses, four_counts}
 use borrow.Author.Rules.{rules}
 use Rattle.exports.proofs.odhrashup_marks.Statement.{statement}
 use Rattle.exports.proofs.odhrashup_marks.Tie as tie
@@ -57,8 +57,8 @@ returns c =
     let put = c.before.before.before.before.before.before.before.before.before.before.before.before.before.before.put in
     let put2 = c.before.before.before.before.before.before.before.before.before.before.put2 in
     let put3 = c.before.before.before.before.before.before.put3 in
-    answers marks.ensures (ap markingOf marking.given.1) refl
-    (four-counts _ marking.given.0.0 _ clear-numbers.ensures put.ensures put2.ensures put3.ensures
+    answers marks.ensures (ap marking_of marking.given.1) refl
+    (four_counts _ marking.given.0.0 _ clear-numbers.ensures put.ensures put2.ensures put3.ensures
     c.before.before.put4.ensures)
 
 same-length-5 : tie.Need-same-length-5
@@ -78,7 +78,7 @@ returns-2 c =
     let clear-numbers =
     c.before.before.before.before.before.before.before.before.before.before.before.before.before.before.before.before.clear-numbers in
     let marks = c.before.before.before.before.before.before.before.before.before.before.marks in
-    refuses marks.ensures (ap markingOf c.before.before.marking2.given.1) clear-numbers.ensures c.number_of_lem.ensures
+    refuses marks.ensures (ap marking_of c.before.before.marking2.given.1) clear-numbers.ensures c.number_of_lem.ensures
 
 pub odhrashup-marks-spec : {M : Type 1} → statement M
 odhrashup-marks-spec =

@@ -1,7 +1,7 @@
 -- `exports::odhrashup_pace` meets its contract: by the report, idle or with its mean, or the refusal.
 use mathlib.Core.Path.{ap}
-use Rattle.pace.specs.Answer.{pacedOf}
-use Rattle.exports.proofs.Answers.{paces, paces-not}
+use Rattle.pace.specs.Answer.{paced_of}
+use Rattle.exports.proofs.Answers.{paces, paces_not}
 use borrow.Author.Rules.{rules}
 use Rattle.exports.proofs.odhrashup_pace.Statement.{statement}
 use Rattle.exports.proofs.odhrashup_pace.Tie as tie
@@ -46,7 +46,7 @@ returns c =
     let at-report = at-paced.before.before.before.before.before.before in
     let at-clear-mean = at-report.before.before.before.before.before in
     let at_clear = at-clear-mean.before.before.before.before in
-    paces at-report.report.ensures _ _ (ap pacedOf at-paced.paced.given.1) at_clear.clear-numbers.ensures
+    paces at-report.report.ensures _ _ (ap paced_of at-paced.paced.given.1) at_clear.clear-numbers.ensures
     at-clear-mean.clear-mean.ensures at-put-report.put-report.ensures
 
 same-length-5 : tie.Need-same-length-5
@@ -67,7 +67,7 @@ returns-2 c =
     let at-report = at-paced2.before.before.before.before.before.before in
     let at-clear-mean = at-report.before.before.before.before.before in
     let at_clear = at-clear-mean.before.before.before.before in
-    paces-not at-report.report.ensures _ _ (ap pacedOf at-paced2.paced2.given.1) at_clear.clear-numbers.ensures
+    paces_not at-report.report.ensures _ _ (ap paced_of at-paced2.paced2.given.1) at_clear.clear-numbers.ensures
     at-clear-mean.clear-mean.ensures c.number_of_lem.ensures
 
 pub odhrashup-pace-spec : {M : Type 1} → statement M

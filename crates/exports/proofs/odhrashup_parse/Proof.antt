@@ -1,7 +1,7 @@
 -- `exports::odhrashup_parse` meets its contract: three counts over a cleared buffer, or the buffer cleared.
 use mathlib.Core.Path.{ap, refl}
-use Rattle.parser.specs.Runs.{parsingOf}
-use Rattle.exports.proofs.Answers.{answers, refuses, three-counts}
+use Rattle.parser.specs.Runs.{parsing_of}
+use Rattle.exports.proofs.Answers.{answers, refuses, three_counts}
 use borrow.Author.Rules.{rules}
 use Rattle.exports.proofs.odhrashup_parse.Statement.{statement}
 use Rattle.exports.proofs.odhrashup_parse.Tie as tie
@@ -40,7 +40,7 @@ same-length-3 : tie.Need-same-length-3
 same-length-3 c = search rules
 
 returns : tie.Need-returns
-unfolding parsingOf
+unfolding parsing_of
 returns c =
     let at-put3 = c.before.before in
     let at-put2 = at-put3.before.before.before.before in
@@ -48,8 +48,8 @@ returns c =
     let at-parsing = at-put.before.before.before in
     let at-parse = at-parsing.before.before.before.before.before.before in
     let at_clear = at-parse.before.before.before.before.before in
-    answers at-parse.parse.ensures (ap parsingOf at-parsing.parsing.given.1) refl
-    (three-counts _ at-parsing.parsing.given.0.0 at_clear.clear-numbers.ensures
+    answers at-parse.parse.ensures (ap parsing_of at-parsing.parsing.given.1) refl
+    (three_counts _ at-parsing.parsing.given.0.0 at_clear.clear-numbers.ensures
     at-put.put.ensures at-put2.put2.ensures at-put3.put3.ensures)
 
 same-length-4 : tie.Need-same-length-4
@@ -62,12 +62,12 @@ same-length-6 : tie.Need-same-length-6
 same-length-6 c = search rules
 
 returns-2 : tie.Need-returns-2
-unfolding parsingOf
+unfolding parsing_of
 returns-2 c =
     let at-parsing2 = c.before.before in
     let at-parse = at-parsing2.before.before.before.before.before.before in
     let at_clear = at-parse.before.before.before.before.before in
-    refuses at-parse.parse.ensures (ap parsingOf at-parsing2.parsing2.given.1) at_clear.clear-numbers.ensures
+    refuses at-parse.parse.ensures (ap parsing_of at-parsing2.parsing2.given.1) at_clear.clear-numbers.ensures
     c.number_of_lem.ensures
 
 pub odhrashup-parse-spec : {M : Type 1} → statement M

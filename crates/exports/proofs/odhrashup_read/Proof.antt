@@ -1,7 +1,7 @@
 -- `exports::odhrashup_read` meets its contract: one count over a cleared buffer, or the buffer cleared.
 use mathlib.Core.Path.{ap, refl}
 use Rattle.file.specs.Answer.{reading_of}
-use Rattle.exports.proofs.Answers.{answers, refuses, one-count}
+use Rattle.exports.proofs.Answers.{answers, refuses, one_count}
 use borrow.Author.Rules.{rules}
 use Rattle.exports.proofs.odhrashup_read.Statement.{statement}
 use Rattle.exports.proofs.odhrashup_read.Tie as tie
@@ -37,7 +37,7 @@ returns c =
     let at_read = at-reading.before.before.before.before in
     let at_clear = at_read.before.before.before.before in
     answers at_read.read.ensures (ap reading_of at-reading.reading.given.1) refl
-    (one-count _ _ at_clear.clear-numbers.ensures at-put.put.ensures)
+    (one_count _ _ at_clear.clear-numbers.ensures at-put.put.ensures)
 
 same-length-3 : tie.Need-same-length-3
 same-length-3 c = search rules

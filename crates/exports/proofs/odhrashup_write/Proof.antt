@@ -1,7 +1,7 @@
 -- `exports::odhrashup_write` meets its contract: one count over a cleared buffer, or the buffer cleared.
 use mathlib.Core.Path.{ap, refl}
-use Rattle.writer.specs.Answer.{writingOf}
-use Rattle.exports.proofs.Answers.{answers, refuses, one-count}
+use Rattle.writer.specs.Answer.{writing_of}
+use Rattle.exports.proofs.Answers.{answers, refuses, one_count}
 use borrow.Author.Rules.{rules}
 use Rattle.exports.proofs.odhrashup_write.Statement.{statement}
 use Rattle.exports.proofs.odhrashup_write.Tie as tie
@@ -36,8 +36,8 @@ returns c =
     let at-writing = at-put.before.before.before in
     let at-write = at-writing.before.before.before.before in
     let at_clear = at-write.before.before.before.before in
-    answers at-write.write.ensures (ap writingOf at-writing.writing.given.1) refl
-    (one-count _ _ at_clear.clear-numbers.ensures at-put.put.ensures)
+    answers at-write.write.ensures (ap writing_of at-writing.writing.given.1) refl
+    (one_count _ _ at_clear.clear-numbers.ensures at-put.put.ensures)
 
 same-length-3 : tie.Need-same-length-3
 same-length-3 c = search rules
@@ -50,7 +50,7 @@ returns-2 c =
     let at-writing2 = c.before.before in
     let at-write = at-writing2.before.before.before.before in
     let at_clear = at-write.before.before.before.before in
-    refuses at-write.write.ensures (ap writingOf at-writing2.writing2.given.1) at_clear.clear-numbers.ensures
+    refuses at-write.write.ensures (ap writing_of at-writing2.writing2.given.1) at_clear.clear-numbers.ensures
     c.number_of_lem.ensures
 
 pub odhrashup-write-spec : {M : Type 1} → statement M

@@ -1,6 +1,6 @@
 -- `exports::put_report` meets its contract: two counts, and the mean or NaN.
 use mathlib.Core.Path.{refl}
-use Rattle.exports.specs.Status.{paceFloat, paceStatus}
+use Rattle.exports.specs.Status.{pace_float, pace_status}
 use Rattle.exports.proofs.Answers.{puts, no_number}
 use borrow.Author.Rules.{rules}
 use Rattle.exports.proofs.put_report.Statement.{statement}
@@ -34,7 +34,7 @@ same-length-2 : tie.Need-same-length-2
 same-length-2 c = search rules
 
 returns : tie.Need-returns
-unfolding paceFloat paceStatus
+unfolding pace_float pace_status
 returns c =
     let at-put-mean = c.before.before in
     let at-pace = at-put-mean.before.before.before in
@@ -49,7 +49,7 @@ same-length-4 : tie.Need-same-length-4
 same-length-4 c = search rules
 
 returns-2 : tie.Need-returns-2
-unfolding paceFloat paceStatus
+unfolding pace_float pace_status
 returns-2 c =
     let at-put-mean2 = c.before.before in
     let at-enum-told = at-put-mean2.before.before in

@@ -3,7 +3,7 @@ use Prim.Native.Nat.{◌-◌, ◌≤◌}
 use native.Mathlib.Omega.{arith}
 use lib.ListN.{length}
 use borrow.Author.Rules.{rules}
-use Rattle.file.proofs.Zeros.{Joined, joined-begins, joined-goes, joined-tells}
+use Rattle.file.proofs.Zeros.{Joined, joined_begins, joined_goes, joined_tells}
 use Rattle.file.proofs.all_zero.Statement.{statement}
 use Rattle.file.proofs.all_zero.Tie as tie
 
@@ -14,7 +14,7 @@ abbrev decreases-loop : tie.decreases-loop
 decreases-loop bytes all₀ i₀ all i = length bytes - i
 
 loop-holds : tie.Need-loop-init invariant-loop decreases-loop
-loop-holds c = (omega arith, joined-begins _)
+loop-holds c = (omega arith, joined_begins _)
 
 shared-slice-read-all : tie.Need-shared-slice-read-all invariant-loop decreases-loop
 shared-slice-read-all c = search rules
@@ -26,10 +26,10 @@ loop-less : tie.Need-loop-smaller invariant-loop decreases-loop
 loop-less c = search rules
 
 loop-again : tie.Need-loop-preserved invariant-loop decreases-loop
-loop-again c = (omega arith, joined-goes c.before.before.loop.invariant.1)
+loop-again c = (omega arith, joined_goes c.before.before.loop.invariant.1)
 
 returns : tie.Need-returns invariant-loop decreases-loop
-returns c = joined-tells c.before.loop.invariant.1 (omega arith)
+returns c = joined_tells c.before.loop.invariant.1 (omega arith)
 
 pub all-zero-spec : {M : Type 1} → statement M
 all-zero-spec =

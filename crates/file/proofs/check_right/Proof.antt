@@ -1,7 +1,7 @@
 -- `file::check_right` meets its contract: the comparison is that of the stored check with the block's.
 use mathlib.Core.Path.{sym, ◌∙◌}
 use borrow.Author.Rules.{rules}
-use Rattle.base.specs.Telling.{tells-eq}
+use Rattle.base.specs.Telling.{tells_eq}
 use Rattle.file.proofs.check_right.Statement.{statement}
 use Rattle.file.proofs.check_right.Tie as tie
 
@@ -21,7 +21,7 @@ returns : tie.Need-returns
 returns c =
     let stored = c.before.pair.ensures in
     let check = c.check-of.ensures in
-    tells-eq _ _ (λ same. sym stored ∙ (same ∙ check)) (λ right. stored ∙ (right ∙ sym check))
+    tells_eq _ _ (λ same. sym stored ∙ (same ∙ check)) (λ right. stored ∙ (right ∙ sym check))
 
 pub check-right-spec : {M : Type 1} → statement M
 check-right-spec = tie.close (tie.spec mul-start add-pair pair-requires check-of-requires returns)

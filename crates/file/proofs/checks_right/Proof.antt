@@ -3,7 +3,7 @@ use Prim.Native.Nat.{ℕ, ◌-◌, ◌≤◌, ◌<◌}
 use native.Mathlib.Omega.{arith}
 use borrow.Author.Rules.{rules}
 use borrow.Author.Count.{below_more}
-use Rattle.grammar.specs.theory.Files.{CheckRight}
+use Rattle.grammar.specs.Theory.Files.{CheckRight}
 use Rattle.base.specs.Telling.{told, denied}
 use Rattle.file.proofs.checks_right.Statement.{statement}
 use Rattle.file.proofs.checks_right.Tie as tie

@@ -2,7 +2,7 @@
 use Prim.Native.Nat.{◌-◌, ◌≤◌}
 use native.Mathlib.Omega.{arith}
 use borrow.Author.Rules.{rules}
-use Rattle.file.proofs.Copying.{block-ends, BlockCopied, block-begins, block_goes}
+use Rattle.file.proofs.Copying.{block_ends, BlockCopied, block_begins, block_goes}
 use Rattle.file.proofs.copy_block.Statement.{statement}
 use Rattle.file.proofs.copy_block.Tie as tie
 
@@ -28,7 +28,7 @@ add_start : tie.Need-overflow-add-start invariant-loop decreases-loop
 add_start c = search rules
 
 loop-holds : tie.Need-loop-init invariant-loop decreases-loop
-loop-holds c = (omega arith, block-begins _ _ _ _)
+loop-holds c = (omega arith, block_begins _ _ _ _)
 
 mul-pair : tie.Need-overflow-mul-pair invariant-loop decreases-loop
 mul-pair c = search rules
@@ -68,7 +68,7 @@ same_length c = c.before.loop.invariant.1.same
 returns : tie.Need-returns invariant-loop decreases-loop
 returns c =
     let used = c.before.before.number.ensures in
-    (omega arith, block-ends c.before.loop.invariant.1 (omega arith))
+    (omega arith, block_ends c.before.loop.invariant.1 (omega arith))
 
 pub copy-block-spec : {M : Type 1} → statement M
 copy-block-spec =

@@ -2,7 +2,7 @@
 use native.Mathlib.Omega.{arith}
 use mathlib.Core.Path.{sym, ◌∙◌}
 use borrow.Author.Rules.{rules}
-use Rattle.grammar.specs.theory.Files.{use-same, use-most}
+use Rattle.grammar.specs.Theory.Files.{use_same, use_most}
 use Rattle.base.specs.Telling.{denied, tells_as}
 use Rattle.file.proofs.fields_right.Statement.{statement}
 use Rattle.file.proofs.fields_right.Tie as tie
@@ -32,10 +32,10 @@ returns-2 : tie.Need-returns-2
 returns-2 c =
     let used = c.before.before.number2.ensures in
     let count = c.before.before.before.before.before.before.requires.1 in
-    denied (λ right. c.before.use-count-right.ensures.no c.if2.false (use-same (sym count) (sym used) right.use-count))
+    denied (λ right. c.before.use-count-right.ensures.no c.if2.false (use_same (sym count) (sym used) right.use_count))
 
 unused-zero-requires : tie.Need-unused-zero-requires
-unused-zero-requires c κs = (search rules, use-most (c.before.use-count-right.ensures.yes c.if2.true))
+unused-zero-requires c κs = (search rules, use_most (c.before.use-count-right.ensures.yes c.if2.true))
 
 returns-3 : tie.Need-returns-3
 returns-3 c =
@@ -47,7 +47,7 @@ returns-3 c =
     (λ zero.
     record {
       number = sym numbered.before.number.ensures ∙ numbered.if1.false;
-      use-count = use-same count used (counted.use-count-right.ensures.yes c.before.if2.true);
+      use_count = use_same count used (counted.use-count-right.ensures.yes c.before.if2.true);
       unused = λ i above. zero i (omega arith);
     })
     (λ right i above. right.unused i (omega arith))

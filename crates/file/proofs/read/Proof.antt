@@ -6,9 +6,9 @@ use mathlib.Core.List.{List}
 use lib.ListN.{length}
 use borrow.Author.Rules.{rules}
 use Rattle.grammar.specs.File.{FileSize, EachBlock}
-use Rattle.grammar.specs.theory.Files.{FileRight, CheckRight}
-use Rattle.file.proofs.Answering.{refuses-size, refuses-check, refuses-block, refuses-room, reads-words}
-use Rattle.grammar.specs.theory.Fills.{made-clear}
+use Rattle.grammar.specs.Theory.Files.{FileRight, CheckRight}
+use Rattle.file.proofs.Answering.{refuses_size, refuses_check, refuses_block, refuses_room, reads_words}
+use Rattle.grammar.specs.Theory.Fills.{made_clear}
 use Rattle.file.proofs.read.Statement.{statement}
 use Rattle.file.proofs.read.Tie as tie
 
@@ -18,7 +18,7 @@ abbrev bytes : tie.Then1 → List ℕ
 bytes c = c.before.before.before.before.before.before.before.before.args.bytes.now
 
 size : (c : tie.Then1) → FileSize (length (bytes c))
-size c = c.before.size-right.ensures.yes c.if1.true
+size c = c.before.size_right.ensures.yes c.if1.true
 
 checks : (c : tie.Then2) → EachBlock (bytes c.before.before) (CheckRight (bytes c.before.before))
 checks c = c.before.checks-right.ensures.yes c.if2.true
@@ -45,8 +45,8 @@ same_length c = search rules
 
 returns : tie.Need-returns
 returns c =
-    refuses-size _ _ (c.before.size-right.ensures.no c.if1.false)
-    (made-clear _ c.before.before.before.before.clear-words.ensures)
+    refuses_size _ _ (c.before.size_right.ensures.no c.if1.false)
+    (made_clear _ c.before.before.before.before.clear-words.ensures)
 
 checks-right-requires : tie.Need-checks-right-requires
 checks-right-requires c κs = search rules
@@ -57,10 +57,10 @@ same-length-2 c = search rules
 returns-2 : tie.Need-returns-2
 returns-2 c =
     let first = c.before.before in
-    refuses-check _ _
+    refuses_check _ _
     (size first)
     (c.before.checks-right.ensures.no c.if2.false)
-    (made-clear _ first.before.before.before.before.clear-words.ensures)
+    (made_clear _ first.before.before.before.before.clear-words.ensures)
 
 blocks-right-requires : tie.Need-blocks-right-requires
 blocks-right-requires c κs = search rules
@@ -72,11 +72,11 @@ returns-3 : tie.Need-returns-3
 returns-3 c =
     let second = c.before.before in
     let first = second.before.before in
-    refuses-block _ _
+    refuses_block _ _
     (size first)
     (checks second)
     (c.before.blocks-right.ensures.no c.if3.false)
-    (made-clear _ first.before.before.before.before.clear-words.ensures)
+    (made_clear _ first.before.before.before.before.clear-words.ensures)
 
 word-count-requires : tie.Need-word-count-requires
 word-count-requires c κs =
@@ -92,7 +92,7 @@ returns-4 c =
     let third = c.before.before in
     let first = third.before.before.before.before in
     let count = c.before.word_count.ensures in
-    refuses-room _ _ (right third) (omega arith) (made-clear _ first.before.before.before.before.clear-words.ensures)
+    refuses_room _ _ (right third) (omega arith) (made_clear _ first.before.before.before.before.clear-words.ensures)
 
 copy-blocks-requires : tie.Need-copy-blocks-requires
 copy-blocks-requires c κs =
@@ -107,11 +107,11 @@ returns-5 c =
     let counted = c.before.before.before.before.before in
     let third = counted.before in
     let first = third.before.before.before.before in
-    reads-words _ _
+    reads_words _ _
     (right third)
     counted.word_count.ensures
     c.before.before.before.before.if4.false
-    (made-clear _ first.before.before.before.before.clear-words.ensures)
+    (made_clear _ first.before.before.before.before.clear-words.ensures)
     c.before.before.copy_blocks.ensures
 
 pub read_spec : {M : Type 1} → statement M

@@ -2,7 +2,7 @@
 use Prim.Native.Nat.{ℕ, ◌+◌, ◌*◌, ◌-◌}
 use native.Mathlib.Omega.{arith}
 use borrow.Author.Rules.{rules}
-use Rattle.file.proofs.Zeros.{part-tells}
+use Rattle.file.proofs.Zeros.{part_tells}
 use Rattle.file.proofs.unused_zero.Statement.{statement}
 use Rattle.file.proofs.unused_zero.Tie as tie
 
@@ -38,7 +38,7 @@ returns c =
     let args = c.before.before.before.args in
     let k : ℕ = args.k in
     let used : ℕ = args.used in
-    part-tells args.bytes.now k used (512 * k + 510 - (512 * k + 4 + 2 * used)) (omega arith) (omega arith) c.all-zero.ensures
+    part_tells args.bytes.now k used (512 * k + 510 - (512 * k + 4 + 2 * used)) (omega arith) (omega arith) c.all_zero.ensures
 
 pub unused-zero-spec : {M : Type 1} → statement M
 unused-zero-spec =

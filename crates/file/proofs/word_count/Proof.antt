@@ -1,10 +1,10 @@
--- `file::word_count` meets its contract: by `file-length`, since every block but the last is full.
+-- `file::word_count` meets its contract: by `file_length`, since every block but the last is full.
 use Prim.Native.Nat.{ℕ, ◌-◌, ◌/◌}
 use native.Mathlib.Omega.{arith}
 use mathlib.Core.List.{List}
 use lib.ListN.{length}
 use borrow.Author.Rules.{rules}
-use Rattle.grammar.specs.theory.Files.{file-length, use-most}
+use Rattle.grammar.specs.Theory.Files.{file_length, use_most}
 use Rattle.file.proofs.word_count.Statement.{statement}
 use Rattle.file.proofs.word_count.Tie as tie
 
@@ -27,13 +27,13 @@ add-result : tie.Need-overflow-add-result
 add-result c =
     let bytes : List ℕ = c.before.before.args.bytes.now in
     let last : ℕ = length bytes / 512 - 1 in
-    omega (arith, use-most (c.before.before.requires.1 last (omega arith)).use-count, c.number.ensures)
+    omega (arith, use_most (c.before.before.requires.1 last (omega arith)).use_count, c.number.ensures)
 
 returns : tie.Need-returns
 returns c =
     let bytes : List ℕ = c.before.before.args.bytes.now in
     let last : ℕ = length bytes / 512 - 1 in
-    omega (arith, file-length bytes c.before.before.requires.1 last (omega arith), c.number.ensures)
+    omega (arith, file_length bytes c.before.before.requires.1 last (omega arith), c.number.ensures)
 
 pub word-count-spec : {M : Type 1} → statement M
 word-count-spec =

@@ -3,7 +3,7 @@ use borrow.Author.Rules.{rules}
 use native.Mathlib.Omega.{arith}
 use Prim.Native.Nat.{◌-◌}
 use mathlib.Core.Path.{sym, ◌∙◌}
-use Rattle.firsts.specs.Begun.{RulesLed, begin-none, begin-goes, begin-ends}
+use Rattle.firsts.specs.Begun.{RulesLed, begin_none, begin_goes, begin_ends}
 use Rattle.firsts.proofs.begin.Statement.{statement}
 use Rattle.firsts.proofs.begin.Tie as tie
 
@@ -21,7 +21,7 @@ rule-count-requires c κs =
 loop-holds : tie.Need-loop-init invariant-loop decreases-loop
 loop-holds c =
     let start = c.before.before.before.before.before in
-    begin-none start.requires.1
+    begin_none start.requires.1
 
 lead-requires : tie.Need-lead-requires invariant-loop decreases-loop
 lead-requires c κs =
@@ -42,7 +42,7 @@ loop-again : tie.Need-loop-preserved invariant-loop decreases-loop
 loop-again c =
     let loop = c.before.before.before.before.before.before.before.before.loop in
     let lead = c.before.before.before.before.lead in
-    begin-goes loop.invariant lead.ensures
+    begin_goes loop.invariant lead.ensures
 
 same_length : tie.Need-same-length invariant-loop decreases-loop
 same_length c =
@@ -55,7 +55,7 @@ same-length-2 c =
     c.before.loop.invariant.begun.sound.size ∙ sym start.requires.0.size
 
 returns : tie.Need-returns invariant-loop decreases-loop
-returns c = begin-ends c.before.loop.invariant (omega (arith, c.loop-test.false, c.before.before.rule-count.ensures))
+returns c = begin_ends c.before.loop.invariant (omega (arith, c.loop-test.false, c.before.before.rule-count.ensures))
 
 pub begin-spec : {M : Type 1} → statement M
 begin-spec =

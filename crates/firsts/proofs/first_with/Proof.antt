@@ -4,14 +4,14 @@ use native.Mathlib.Omega.{arith}
 use Prim.Native.Nat.{◌-◌}
 use mathlib.Core.Path.{sym, ◌∙◌}
 use lib.ListN.{drop}
-use Rattle.grammar.specs.Words.{rightSide}
-use Rattle.firsts.specs.Fronts.{Fronted, front-begins, front_at, front-token, front-past, front-stop, front_ends}
+use Rattle.grammar.specs.Words.{right_side}
+use Rattle.firsts.specs.Fronts.{Fronted, front_begins, front_at, front_token, front_past, front_stop, front_ends}
 use Rattle.firsts.proofs.first_with.Statement.{statement}
 use Rattle.firsts.proofs.first_with.Tie as tie
 
 abbrev invariant-loop : tie.invariant-loop
 invariant-loop words places null firsts p base size set₀ i₀ set i =
-    Fronted null firsts base (rightSide words p) (drop i (rightSide words p)) set
+    Fronted null firsts base (right_side words p) (drop i (right_side words p)) set
 
 abbrev decreases-loop : tie.decreases-loop
 decreases-loop words places null firsts p base size set₀ i₀ set i = size - i
@@ -20,7 +20,7 @@ size-of-requires : tie.Need-size-of-requires invariant-loop decreases-loop
 size-of-requires c κs = (c.before.before.before.requires.0.ready, c.before.before.before.requires.1)
 
 loop-holds : tie.Need-loop-init invariant-loop decreases-loop
-loop-holds c = front-begins _
+loop-holds c = front_begins _
 
 symbol-at-requires : tie.Need-symbol-at-requires invariant-loop decreases-loop
 symbol-at-requires c κs =
@@ -34,7 +34,7 @@ returns : tie.Need-returns invariant-loop decreases-loop
 returns c =
     let turn = c.before.before.before.before in
     let loop-test = c.before.before.before.loop-test in
-    front-token (front_at turn.before.type_size.ensures loop-test.true c.before.before.symbol-at.ensures turn.loop.invariant)
+    front_token (front_at turn.before.type_size.ensures loop-test.true c.before.before.symbol_at.ensures turn.loop.invariant)
     c.before.if1.true c.with.ensures
 
 cast-union : tie.Need-overflow-cast-union invariant-loop decreases-loop
@@ -54,11 +54,11 @@ has-requires c κs = search rules
 
 returns-2 : tie.Need-returns-2 invariant-loop decreases-loop
 returns-2 c =
-    let symbol-at = c.before.before.before.before.before.symbol-at in
+    let symbol_at = c.before.before.before.before.before.symbol_at in
     let loop-test = c.before.before.before.before.before.before.loop-test in
     let turn = c.before.before.before.before.before.before.before in
     let if1 = c.before.before.before.before.if1 in
-    front-stop (front_at turn.before.type_size.ensures loop-test.true symbol-at.ensures turn.loop.invariant)
+    front_stop (front_at turn.before.type_size.ensures loop-test.true symbol_at.ensures turn.loop.invariant)
     if1.false c.before.before.union.ensures (sym c.before.has.ensures ∙ c.if2.false)
 
 add-i : tie.Need-overflow-add-i invariant-loop decreases-loop
@@ -69,11 +69,11 @@ loop-less c = search rules
 
 loop-again : tie.Need-loop-preserved invariant-loop decreases-loop
 loop-again c =
-    let symbol-at = c.before.before.before.before.before.symbol-at in
+    let symbol_at = c.before.before.before.before.before.symbol_at in
     let loop-test = c.before.before.before.before.before.before.loop-test in
     let turn = c.before.before.before.before.before.before.before in
     let if1 = c.before.before.before.before.if1 in
-    front-past (front_at turn.before.type_size.ensures loop-test.true symbol-at.ensures turn.loop.invariant)
+    front_past (front_at turn.before.type_size.ensures loop-test.true symbol_at.ensures turn.loop.invariant)
     if1.false c.before.before.union.ensures (sym c.before.has.ensures ∙ c.if2.true)
 
 union-requires-2 : tie.Need-union-requires-2 invariant-loop decreases-loop

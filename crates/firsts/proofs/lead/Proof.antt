@@ -4,14 +4,14 @@ use native.Mathlib.Omega.{arith}
 use Prim.Native.Nat.{◌-◌}
 use mathlib.Core.Path.{sym, ◌∙◌}
 use lib.ListN.{drop}
-use Rattle.grammar.specs.Words.{rightSide}
-use Rattle.firsts.specs.Leading.{Leading, lead-begins, lead-at, lead-none, lead-token, lead-past, lead-stop, lead-ends}
+use Rattle.grammar.specs.Words.{right_side}
+use Rattle.firsts.specs.Leading.{Leading, lead_begins, lead_at, lead_none, lead_token, lead_past, lead_stop, lead_ends}
 use Rattle.firsts.proofs.lead.Statement.{statement}
 use Rattle.firsts.proofs.lead.Tie as tie
 
 abbrev invariant-loop : tie.invariant-loop
 invariant-loop words places null p list feeds₀ out₀ k size list₀ i₀ feeds out list' i =
-    Leading words null p k (drop i (rightSide words p)) feeds₀ out₀ feeds out list'
+    Leading words null p k (drop i (right_side words p)) feeds₀ out₀ feeds out list'
 
 abbrev decreases-loop : tie.decreases-loop
 decreases-loop words places null p list feeds₀ out₀ k size list₀ i₀ feeds out list' i = size - i
@@ -29,7 +29,7 @@ size-of-requires c κs =
 loop-holds : tie.Need-loop-init invariant-loop decreases-loop
 loop-holds c =
     let start = c.before.before.before.before.before.before in
-    lead-begins start.requires.1.1
+    lead_begins start.requires.1.1
 
 symbol-at-requires : tie.Need-symbol-at-requires invariant-loop decreases-loop
 symbol-at-requires c κs =
@@ -44,9 +44,9 @@ with-requires c κs = search rules
 
 add-to-requires : tie.Need-add-to-requires invariant-loop decreases-loop
 add-to-requires c κs =
-    let left-of = c.before.before.before.before.before.before.before.left-of in
+    let left_of = c.before.before.before.before.before.before.before.left_of in
     let loop = c.before.before.before.before.before.loop in
-    omega (arith, left-of.ensures.small, loop.invariant.begun.sound.size)
+    omega (arith, left_of.ensures.small, loop.invariant.begun.sound.size)
 
 same_length : tie.Need-same-length invariant-loop decreases-loop
 same_length c =
@@ -66,16 +66,16 @@ returns : tie.Need-returns invariant-loop decreases-loop
 returns c =
     let turn = c.before.before.before.before.before.before.before.before in
     let start = turn.before.before.before.before.before.before.before in
-    let left-of = turn.before.before.left-of in
+    let left_of = turn.before.before.left_of in
     let type_size = turn.before.type_size in
     let loop-test = c.before.before.before.before.before.before.before.loop-test in
-    let symbol-at = c.before.before.before.before.before.before.symbol-at in
+    let symbol_at = c.before.before.before.before.before.before.symbol_at in
     let loop = turn.loop in
     let if1 = c.before.before.before.before.before.if1 in
     let single = c.before.before.before.with in
-    lead-ends start.requires.0 start.requires.1.0 left-of.ensures
-    (lead-token start.requires.0 start.requires.1.0 left-of.ensures
-    (lead-at type_size.ensures loop-test.true symbol-at.ensures loop.invariant)
+    lead_ends start.requires.0 start.requires.1.0 left_of.ensures
+    (lead_token start.requires.0 start.requires.1.0 left_of.ensures
+    (lead_at type_size.ensures loop-test.true symbol_at.ensures loop.invariant)
     if1.true single.ensures c.before.before.add-to.ensures)
 
 cast-add-to-2 : tie.Need-overflow-cast-add-to-2 invariant-loop decreases-loop
@@ -86,9 +86,9 @@ with-requires-2 c κs = search rules
 
 add-to-requires-2 : tie.Need-add-to-requires-2 invariant-loop decreases-loop
 add-to-requires-2 c κs =
-    let symbol-at = c.before.before.before.symbol-at in
+    let symbol_at = c.before.before.before.symbol_at in
     let loop = c.before.before.before.before.before.loop in
-    omega (arith, c.before.before.if1.false, symbol-at.ensures.small, loop.invariant.begun.size)
+    omega (arith, c.before.before.if1.false, symbol_at.ensures.small, loop.invariant.begun.size)
 
 with-requires-3 : tie.Need-with-requires-3 invariant-loop decreases-loop
 with-requires-3 c κs = search rules
@@ -115,17 +115,17 @@ returns-2 : tie.Need-returns-2 invariant-loop decreases-loop
 returns-2 c =
     let turn = c.before.before.before.before.before.before.before.before.before.before.before in
     let start = turn.before.before.before.before.before.before.before in
-    let left-of = turn.before.before.left-of in
+    let left_of = turn.before.before.left_of in
     let type_size = turn.before.type_size in
     let loop-test = c.before.before.before.before.before.before.before.before.before.before.loop-test in
-    let symbol-at = c.before.before.before.before.before.before.before.before.before.symbol-at in
+    let symbol_at = c.before.before.before.before.before.before.before.before.before.symbol_at in
     let loop = turn.loop in
     let if1 = c.before.before.before.before.before.before.before.before.if1 in
     let with2 = c.before.before.before.before.before.before.with2 in
     let add-to2 = c.before.before.before.before.before.add-to2 in
-    lead-ends start.requires.0 start.requires.1.0 left-of.ensures
-    (lead-stop start.requires.0 start.requires.1.0 left-of.ensures
-    (lead-at type_size.ensures loop-test.true symbol-at.ensures loop.invariant)
+    lead_ends start.requires.0 start.requires.1.0 left_of.ensures
+    (lead_stop start.requires.0 start.requires.1.0 left_of.ensures
+    (lead_at type_size.ensures loop-test.true symbol_at.ensures loop.invariant)
     if1.false with2.ensures add-to2.ensures c.before.before.with3.ensures (sym c.before.has.ensures ∙ c.if2.false))
 
 add-i : tie.Need-overflow-add-i invariant-loop decreases-loop
@@ -138,16 +138,16 @@ loop-again : tie.Need-loop-preserved invariant-loop decreases-loop
 loop-again c =
     let turn = c.before.before.before.before.before.before.before.before.before.before.before in
     let start = turn.before.before.before.before.before.before.before in
-    let left-of = turn.before.before.left-of in
+    let left_of = turn.before.before.left_of in
     let type_size = turn.before.type_size in
     let loop-test = c.before.before.before.before.before.before.before.before.before.before.loop-test in
-    let symbol-at = c.before.before.before.before.before.before.before.before.before.symbol-at in
+    let symbol_at = c.before.before.before.before.before.before.before.before.before.symbol_at in
     let loop = turn.loop in
     let if1 = c.before.before.before.before.before.before.before.before.if1 in
     let with2 = c.before.before.before.before.before.before.with2 in
     let add-to2 = c.before.before.before.before.before.add-to2 in
-    lead-past start.requires.0 start.requires.1.0 left-of.ensures
-    (lead-at type_size.ensures loop-test.true symbol-at.ensures loop.invariant)
+    lead_past start.requires.0 start.requires.1.0 left_of.ensures
+    (lead_at type_size.ensures loop-test.true symbol_at.ensures loop.invariant)
     if1.false with2.ensures add-to2.ensures c.before.before.with3.ensures (sym c.before.has.ensures ∙ c.if2.true)
 
 same-length-5 : tie.Need-same-length-5 invariant-loop decreases-loop
@@ -163,9 +163,9 @@ same-length-6 c =
 returns-3 : tie.Need-returns-3 invariant-loop decreases-loop
 returns-3 c =
     let start = c.before.before.before.before.before.before.before.before in
-    let left-of = c.before.before.before.left-of in
-    lead-ends start.requires.0 start.requires.1.0 left-of.ensures
-    (lead-none c.before.before.type_size.ensures c.loop-test.false c.before.loop.invariant)
+    let left_of = c.before.before.before.left_of in
+    lead_ends start.requires.0 start.requires.1.0 left_of.ensures
+    (lead_none c.before.before.type_size.ensures c.loop-test.false c.before.loop.invariant)
 
 pub lead-spec : {M : Type 1} → statement M
 lead-spec =

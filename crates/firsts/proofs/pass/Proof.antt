@@ -1,6 +1,6 @@
 -- `firsts::pass` meets its contract: a terminal, a nonterminal that can be empty, any other.
 use mathlib.Core.Path.{sym, ◌∙◌}
-use Rattle.firsts.specs.Opens.{with-token, with-past, with-stop}
+use Rattle.firsts.specs.Opens.{with_token, with_past, with_stop}
 use borrow.Author.Rules.{rules}
 use Rattle.firsts.proofs.pass.Statement.{statement}
 use Rattle.firsts.proofs.pass.Tie as tie
@@ -9,7 +9,7 @@ with-requires : tie.Need-with-requires
 with-requires c κs = search rules
 
 returns : tie.Need-returns
-returns c = rw c.with.ensures (with-token _ _ _ _ c.before.if1.true)
+returns c = rw c.with.ensures (with_token _ _ _ _ c.before.if1.true)
 
 cast-own : tie.Need-overflow-cast-own
 cast-own c = search rules
@@ -30,10 +30,10 @@ returns-2 : tie.Need-returns-2
 returns-2 c =
     let if1 = c.before.before.before.before.if1 in
     let has = c.before.before.has in
-    rw c.union.ensures (with-past _ _ _ _ if1.false (sym has.ensures ∙ c.before.if2.true))
+    rw c.union.ensures (with_past _ _ _ _ if1.false (sym has.ensures ∙ c.before.if2.true))
 
 returns-3 : tie.Need-returns-3
-returns-3 c = with-stop _ _ _ _ c.before.before.before.if1.false (sym c.before.has.ensures ∙ c.if2.false)
+returns-3 c = with_stop _ _ _ _ c.before.before.before.if1.false (sym c.before.has.ensures ∙ c.if2.false)
 
 pub pass_spec : {M : Type 1} → statement M
 pass_spec =

@@ -5,16 +5,16 @@ use native.Mathlib.Omega.{arith}
 use Prim.Native.Nat.{ℕ, ◌<◌, ◌-◌}
 use mathlib.Core.Path.{◌≡◌, refl}
 use lib.ListN.{length, get_or, length-set}
-use Rattle.grammar.specs.theory.Masks.{FirstMask}
-use Rattle.grammar.specs.Words.{rightSide}
+use Rattle.grammar.specs.Theory.Masks.{FirstMask}
+use Rattle.grammar.specs.Words.{right_side}
 use Rattle.growth.specs.Sums.{filled_more}
-use Rattle.firsts.specs.Firsts.{right-first}
+use Rattle.firsts.specs.Firsts.{right_first}
 use Rattle.firsts.proofs.rule_firsts.Statement.{statement}
 use Rattle.firsts.proofs.rule_firsts.Tie as tie
 
 abbrev invariant-loop : tie.invariant-loop
 invariant-loop words places null firsts out₀ count p₀ out p =
-    (length out ≡ length out₀) × ((q : ℕ) → q < p → FirstMask (RuleOf words) (rightSide words q) (get_or out q 0))
+    (length out ≡ length out₀) × ((q : ℕ) → q < p → FirstMask (RuleOf words) (right_side words q) (get_or out q 0))
 
 abbrev decreases-loop : tie.decreases-loop
 decreases-loop words places null firsts out₀ count p₀ out p = count - p
@@ -36,7 +36,7 @@ mul-out : tie.Need-overflow-mul-out invariant-loop decreases-loop
 mul-out c =
     let start = c.before.before.before.before.before.before.before.before in
     let rule-count = c.before.before.before.rule-count in
-    let s = start.requires.0.ready.shaped.rules-high in
+    let s = start.requires.0.ready.shaped.rules_high in
     let n = rule-count.ensures in
     omega arith
 
@@ -45,7 +45,7 @@ slice-write-out c =
     let start = c.before.before.before.before.before.before.before.before in
     let rule-count = c.before.before.before.rule-count in
     let loop = c.before.before.loop in
-    let s = start.requires.0.ready.shaped.rules-high in
+    let s = start.requires.0.ready.shaped.rules_high in
     let n = rule-count.ensures in
     omega (arith, loop.invariant.0, start.requires.1.1)
 
@@ -62,12 +62,12 @@ loop-again c =
     let loop = c.before.before.loop in
     let n = rule-count.ensures in
     let s = start.requires.0.ready.shaped in
-    let high = s.rules-high in
+    let high = s.rules_high in
     let size = start.requires.1.1 in
     let inv = loop.invariant in (
       simp length-set inv.0,
-      filled_more (λ q m. FirstMask (RuleOf start.args.words.now) (rightSide start.args.words.now q) m)
-          loop.out loop.p _ (omega arith) inv.1 (right-first _ s _ start.requires.0.nulls start.requires.1.0 loop.p
+      filled_more (λ q m. FirstMask (RuleOf start.args.words.now) (right_side start.args.words.now q) m)
+          loop.out loop.p _ (omega arith) inv.1 (right_first _ s _ start.requires.0.nulls start.requires.1.0 loop.p
           (omega arith) c.first-with.ensures),
     )
 

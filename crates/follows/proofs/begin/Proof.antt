@@ -3,7 +3,7 @@ use borrow.Author.Rules.{rules}
 use native.Mathlib.Omega.{arith}
 use Prim.Native.Nat.{◌-◌}
 use mathlib.Core.Path.{sym, ◌∙◌}
-use Rattle.follows.specs.Begun.{RulesFed, begin-none, begin-goes, begin-ends}
+use Rattle.follows.specs.Begun.{RulesFed, begin_none, begin_goes, begin_ends}
 use Rattle.follows.proofs.begin.Statement.{statement}
 use Rattle.follows.proofs.begin.Tie as tie
 
@@ -21,7 +21,7 @@ rule-count-requires c κs =
 loop-holds : tie.Need-loop-init invariant-loop decreases-loop
 loop-holds c =
     let start = c.before.before.before.before.before.before in
-    begin-none start.requires.1
+    begin_none start.requires.1
 
 feed-rule-requires : tie.Need-feed-rule-requires invariant-loop decreases-loop
 feed-rule-requires c κs =
@@ -46,12 +46,12 @@ cast-add-to c = search rules
 add-to-requires : tie.Need-add-to-requires invariant-loop decreases-loop
 add-to-requires c κs =
     let loop = c.before.before.before.before.before.before.before.loop in
-    omega (arith, c.before.left-of.ensures.small, loop.invariant.begun.size)
+    omega (arith, c.before.left_of.ensures.small, loop.invariant.begun.size)
 
 note-requires : tie.Need-note-requires invariant-loop decreases-loop
 note-requires c κs =
-    let left-of = c.before.before.before.before.left-of in
-    left-of.ensures.small
+    let left_of = c.before.before.before.before.left_of in
+    left_of.ensures.small
 
 add-p : tie.Need-overflow-add-p invariant-loop decreases-loop
 add-p c = search rules
@@ -66,10 +66,10 @@ loop-again c =
     let loop-test = c.before.before.before.before.before.before.before.before.before.before.loop-test in
     let rule-count = turn.before.rule-count in
     let feed-rule = c.before.before.before.before.before.before.before.before.feed-rule in
-    let left-of = c.before.before.before.before.before.left-of in
+    let left_of = c.before.before.before.before.before.left_of in
     let add-to = c.before.before.before.add-to in
-    begin-goes start.requires.0 turn.loop.invariant (omega (arith, loop-test.true, rule-count.ensures)) feed-rule.ensures
-    left-of.ensures add-to.ensures c.note.ensures
+    begin_goes start.requires.0 turn.loop.invariant (omega (arith, loop-test.true, rule-count.ensures)) feed-rule.ensures
+    left_of.ensures add-to.ensures c.note.ensures
 
 same_length : tie.Need-same-length invariant-loop decreases-loop
 same_length c =
@@ -82,7 +82,7 @@ same-length-2 c =
     c.before.loop.invariant.begun.sound.size ∙ sym start.requires.0.size
 
 returns : tie.Need-returns invariant-loop decreases-loop
-returns c = begin-ends c.before.loop.invariant (omega (arith, c.loop-test.false, c.before.before.rule-count.ensures))
+returns c = begin_ends c.before.loop.invariant (omega (arith, c.loop-test.false, c.before.before.rule-count.ensures))
 
 pub begin-spec : {M : Type 1} → statement M
 begin-spec =

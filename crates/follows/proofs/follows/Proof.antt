@@ -1,8 +1,8 @@
 -- `follows::follows` meets its contract: the pass begins with END behind START, and what comes of it along the list is FOLLOW
--- (`begun-closed`).
-use Rattle.base.specs.Blank.{blank-made}
-use Rattle.follows.specs.Feeding.{follows-begin}
-use Rattle.follows.specs.Begun.{begin-begins, begun-closed}
+-- (`begun_closed`).
+use Rattle.base.specs.Blank.{blank_made}
+use Rattle.follows.specs.Feeding.{follows_begin}
+use Rattle.follows.specs.Begun.{begin_begins, begun_closed}
 use borrow.Author.Rules.{rules}
 use Rattle.follows.proofs.follows.Statement.{statement}
 use Rattle.follows.proofs.follows.Tie as tie
@@ -22,9 +22,9 @@ begin-requires c κs =
     let single = added.before.with in
     let start = added.before.before.before.before.before.before.before in
     let need = start.requires.0 in
-    let begun = follows-begin start.requires.1 single.ensures added.add-to.ensures in (
+    let begun = follows_begin start.requires.1 single.ensures added.add-to.ensures in (
       record { asked = need.asked; exact = need.exact; reached = need.reached; size = begun.size },
-      begin-begins (blank-made 64) begun,
+      begin_begins (blank_made 64) begun,
     )
 
 slice-aggregate-close : tie.Need-slice-aggregate-close
@@ -41,7 +41,7 @@ returns c =
     let begun = c.before.before.before.before.before.before.before.before in
     let added = begun.before.before.before.before.before in
     let start = added.before.before.before.before.before.before.before in
-    begun-closed start.requires.0 begun.begin.ensures c.before.before.close.ensures
+    begun_closed start.requires.0 begun.begin.ensures c.before.before.close.ensures
 
 pub follows-spec : {M : Type 1} → statement M
 follows-spec =

@@ -1,5 +1,5 @@
 -- `growth::add_to` meets its contract: the union is put in the set's place, and where it is the set itself nothing changes.
-use Rattle.growth.specs.Added.{added-told-by}
+use Rattle.growth.specs.Added.{added_told_by}
 use borrow.Author.Rules.{rules}
 use Rattle.growth.proofs.add_to.Statement.{statement}
 use Rattle.growth.proofs.add_to.Tie as tie
@@ -23,7 +23,7 @@ same_length : tie.Need-same-length
 same_length c = search rules
 
 returns : tie.Need-returns
-returns c = added-told-by _ _ _ c.before.before.before.requires _ c.union.ensures
+returns c = added_told_by _ _ _ c.before.before.before.requires _ c.union.ensures
 
 pub add_to_spec : {M : Type 1} → statement M
 add_to_spec = tie.close (tie.spec mul-old slice-read-old union-requires mul-all slice-write-all same_length returns)

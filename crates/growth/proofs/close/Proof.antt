@@ -6,7 +6,7 @@ use mathlib.Core.Path.{◌≡◌, refl, sym, ap, ◌∙◌, subst}
 use Rattle.sets.specs.Operations.{union}
 use lib.ListN.{length}
 use Rattle.growth.specs.Sums.{sum_below}
-use Rattle.growth.specs.Closing.{Opened, left, end_below, end-held, close-begins, close-goes, close-ends, close-less}
+use Rattle.growth.specs.Closing.{Opened, left, end_below, end_held, close_begins, close_goes, close_ends, close_less}
 use Rattle.growth.proofs.close.Statement.{statement}
 use Rattle.growth.proofs.close.Tie as tie
 
@@ -17,7 +17,7 @@ abbrev decreases-loop : tie.decreases-loop
 decreases-loop feeds list high sets₀ waiting₀ sets waiting = left sets waiting
 
 loop-holds : tie.Need-loop-init invariant-loop decreases-loop
-loop-holds c = close-begins _ _ _ c.before.before.requires.1.0 c.before.before.requires.1.1
+loop-holds c = close_begins _ _ _ c.before.before.requires.1.0 c.before.before.requires.1.1
 
 end-of-requires : tie.Need-end-of-requires invariant-loop decreases-loop
 end-of-requires c κs = c.loop-test.true
@@ -53,7 +53,7 @@ feed-requires c κs =
 without-requires : tie.Need-without-requires invariant-loop decreases-loop
 without-requires c κs =
     let by-end-of = c.before.before.before.before.before.before.end_of_lem in
-    (end_below _ by-end-of.ensures, end-held _ by-end-of.ensures)
+    (end_below _ by-end-of.ensures, end_held _ by-end-of.ensures)
 
 union-requires : tie.Need-union-requires invariant-loop decreases-loop
 union-requires c κs = search rules
@@ -67,7 +67,7 @@ loop-less c =
     let is = c.union.ensures ∙ ap (λ n. union n by-feed.result) c.before.without.ensures in
     let small : c.union.result < 2 ^ 64 = search rules in
     subst (λ n. left by-feed.new.1.1.0 n < left loop.sets loop.waiting) (sym is)
-    (close-less _ by-end-of.ensures by-feed.ensures (sum_below _ size c.before.before.slice-known3.given)
+    (close_less _ by-end-of.ensures by-feed.ensures (sum_below _ size c.before.before.slice-known3.given)
     (subst (λ n. n < 2 ^ 64) is small))
 
 loop-again : tie.Need-loop-preserved invariant-loop decreases-loop
@@ -75,7 +75,7 @@ loop-again c =
     let by-feed = c.before.before.before.before.feed in
     let by-end-of = c.before.before.before.before.before.before.before.before.end_of_lem in
     let loop = c.before.before.before.before.before.before.before.before.before.before.loop in
-    rw c.union.ensures (rw c.before.without.ensures (close-goes _ loop.invariant by-end-of.ensures refl refl by-feed.ensures))
+    rw c.union.ensures (rw c.before.without.ensures (close_goes _ loop.invariant by-end-of.ensures refl refl by-feed.ensures))
 
 same_length : tie.Need-same-length invariant-loop decreases-loop
 same_length c =
@@ -83,7 +83,7 @@ same_length c =
     c.before.loop.invariant.size ∙ sym start.requires.1.0
 
 returns : tie.Need-returns invariant-loop decreases-loop
-returns c = close-ends c.before.loop.invariant (omega (arith, c.loop-test.false))
+returns c = close_ends c.before.loop.invariant (omega (arith, c.loop-test.false))
 
 pub close_spec : {M : Type 1} → statement M
 close_spec =

@@ -1,6 +1,6 @@
 -- `growth::end_of` meets its contract: the greatest or the least, as it is told.
 use borrow.Author.Rules.{rules}
-use Rattle.growth.specs.Closing.{end-high, end_low}
+use Rattle.growth.specs.Closing.{end_high, end_low}
 use Rattle.growth.proofs.end_of.Statement.{statement}
 use Rattle.growth.proofs.end_of.Tie as tie
 
@@ -8,7 +8,7 @@ greatest-requires : tie.Need-greatest-requires
 greatest-requires c κs = search rules
 
 returns : tie.Need-returns
-returns c = end-high c.before.if1.true c.greatest.ensures
+returns c = end_high c.before.if1.true c.greatest.ensures
 
 least-requires : tie.Need-least-requires
 least-requires c κs = search rules

@@ -4,8 +4,8 @@ use native.Mathlib.Omega.{arith}
 use Prim.Native.Nat.{ℕ, ◌<◌}
 use mathlib.Core.Path.{◌≡◌, sym, ◌∙◌, subst}
 use lib.ListN.{length}
-use Rattle.sets.specs.Taking.{without-less}
-use Rattle.growth.specs.Closing.{Feeding, feed-none, feed-begins, feed-goes, feed-ends}
+use Rattle.sets.specs.Taking.{without_less}
+use Rattle.growth.specs.Closing.{Feeding, feed_none, feed_begins, feed_goes, feed_ends}
 use Rattle.growth.proofs.feed.Statement.{statement}
 use Rattle.growth.proofs.feed.Tie as tie
 
@@ -16,10 +16,10 @@ abbrev decreases-loop : tie.decreases-loop
 decreases-loop fed mask sets₀ rest₀ grown₀ sets rest grown = rest
 
 returns : tie.Need-returns invariant-loop decreases-loop
-returns c = feed-none _ _ c.if1.true
+returns c = feed_none _ _ c.if1.true
 
 loop-holds : tie.Need-loop-init invariant-loop decreases-loop
-loop-holds c = feed-begins _ _ _
+loop-holds c = feed_begins _ _ _
 
 least-requires : tie.Need-least-requires invariant-loop decreases-loop
 least-requires c κs = c.loop-test.true
@@ -45,20 +45,20 @@ without-requires c κs =
 loop-less : tie.Need-loop-smaller invariant-loop decreases-loop
 loop-less c =
     let by-least = c.before.before.before.before.before.before.least in
-    omega (arith, without-less _ _ by-least.ensures.held, c.without.ensures)
+    omega (arith, without_less _ _ by-least.ensures.held, c.without.ensures)
 
 loop-again : tie.Need-loop-preserved invariant-loop decreases-loop
 loop-again c =
     let by-add-to = c.before.before.before.before.add-to in
     let by-least = c.before.before.before.before.before.before.least in
     let loop = c.before.before.before.before.before.before.before.before.loop in
-    rw c.without.ensures (feed-goes loop.invariant by-least.ensures by-add-to.ensures c.before.note.ensures)
+    rw c.without.ensures (feed_goes loop.invariant by-least.ensures by-add-to.ensures c.before.note.ensures)
 
 same_length : tie.Need-same-length invariant-loop decreases-loop
 same_length c = c.before.loop.invariant.same
 
 returns-2 : tie.Need-returns-2 invariant-loop decreases-loop
-returns-2 c = feed-ends c.before.loop.invariant (omega (arith, c.loop-test.false))
+returns-2 c = feed_ends c.before.loop.invariant (omega (arith, c.loop-test.false))
 
 pub feed-spec : {M : Type 1} → statement M
 feed-spec =

@@ -6,14 +6,14 @@ use mathlib.Core.Path.{◌≡◌}
 use Rattle.growth.specs.Along.{
   Reaching,
   Spent,
-  along-begins,
-  along-goes,
-  along-ends,
-  along-less,
-  spent-begins,
-  spent-goes,
+  along_begins,
+  along_goes,
+  along_ends,
+  along_less,
+  spent_begins,
+  spent_goes,
   spent_ends,
-  spent-unstepped,
+  spent_unstepped,
 }
 use Rattle.growth.proofs.reach.Statement.{statement}
 use Rattle.growth.proofs.reach.Tie as tie
@@ -28,7 +28,7 @@ with-requires : tie.Need-with-requires invariant-loop decreases-loop
 with-requires c κs = search rules
 
 loop-holds : tie.Need-loop-init invariant-loop decreases-loop
-loop-holds c = (rw c.with.ensures (along-begins _), spent-begins _)
+loop-holds c = (rw c.with.ensures (along_begins _), spent_begins _)
 
 beyond-requires : tie.Need-beyond-requires invariant-loop decreases-loop
 beyond-requires c κs = search rules
@@ -40,7 +40,7 @@ returns : tie.Need-returns invariant-loop decreases-loop
 returns c =
     let loop = c.before.before.loop in
     let rest = c.before.beyond.ensures in
-    (along-ends rest c.if1.true loop.invariant.0, spent_ends rest c.if1.true loop.invariant.0 loop.invariant.1)
+    (along_ends rest c.if1.true loop.invariant.0, spent_ends rest c.if1.true loop.invariant.0 loop.invariant.1)
 
 least-requires : tie.Need-least-requires invariant-loop decreases-loop
 least-requires c κs = omega (arith, c.if1.false)
@@ -77,7 +77,7 @@ loop-less : tie.Need-loop-smaller invariant-loop decreases-loop
 loop-less c =
     let by-beyond = c.before.before.before.before.before.beyond in
     let small : c.with2.result < 2 ^ 64 = search rules in
-    rw c.with2.ensures (along-less by-beyond.ensures c.before.before.before.least.ensures (omega (arith, c.with2.ensures)))
+    rw c.with2.ensures (along_less by-beyond.ensures c.before.before.before.least.ensures (omega (arith, c.with2.ensures)))
 
 loop-again : tie.Need-loop-preserved invariant-loop decreases-loop
 loop-again c =
@@ -85,9 +85,9 @@ loop-again c =
     let by-beyond = c.before.before.before.before.before.beyond.ensures in
     let loop = c.before.before.before.before.before.before.loop in
     let start = c.before.before.before.before.before.before.before.before.before in
-    let same = spent-unstepped loop.invariant.1 by-beyond by-least in (
-      rw c.before.union.ensures (rw c.with2.ensures (along-goes loop.invariant.0 by-beyond by-least same)),
-      rw c.with2.ensures (spent-goes loop.invariant.1 (omega (arith, by-least.below, loop.invariant.1.same, start.requires))),
+    let same = spent_unstepped loop.invariant.1 by-beyond by-least in (
+      rw c.before.union.ensures (rw c.with2.ensures (along_goes loop.invariant.0 by-beyond by-least same)),
+      rw c.with2.ensures (spent_goes loop.invariant.1 (omega (arith, by-least.below, loop.invariant.1.same, start.requires))),
     )
 
 pub reach-spec : {M : Type 1} → statement M

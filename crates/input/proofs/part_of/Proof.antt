@@ -3,16 +3,16 @@ use mathlib.Core.Path.{ap}
 use mir.Facts.{to_z-of_z}
 use mir.Val.{to_z, of_z}
 use mir.Syntax.{w64}
-use Rattle.input.specs.Parts.{part-failed, part-ended, part_bytes}
+use Rattle.input.specs.Parts.{part_failed, part_ended, part_bytes}
 use borrow.Author.Rules.{rules}
 use Rattle.input.proofs.part_of.Statement.{statement}
 use Rattle.input.proofs.part_of.Tie as tie
 
 returns : tie.Need-returns
-returns c = part-failed _ _ _ (to_z-of_z c.before.before.ranges.got) c.if1.true
+returns c = part_failed _ _ _ (to_z-of_z c.before.before.ranges.got) c.if1.true
 
 returns-2 : tie.Need-returns-2
-returns-2 c = part-ended _ _ _ (to_z-of_z c.before.before.before.ranges.got) (ap (to_z w64) c.if2.true)
+returns-2 c = part_ended _ _ _ (to_z-of_z c.before.before.before.ranges.got) (ap (to_z w64) c.if2.true)
 
 count-requires : tie.Need-count-requires
 count-requires c κs = search rules

@@ -1,7 +1,7 @@
 -- `listing::show` meets its contract: the bytes kept decide the listing of the whole input.
 use mathlib.Core.Path.{sym}
 use lib.Seq.{length-take-le}
-use Rattle.listing.specs.Shown.{shown-whole}
+use Rattle.listing.specs.Shown.{shown_whole}
 use borrow.Author.Rules.{rules}
 use Rattle.listing.proofs.show.Statement.{statement}
 use Rattle.listing.proofs.show.Tie as tie
@@ -18,7 +18,7 @@ same_length c = search rules
 returns : tie.Need-returns
 returns c =
     let start = c.before.before.before.before.before.before.before in
-    shown-whole start.requires.0 start.requires.1.0 c.before.before.show-input.ensures
+    shown_whole start.requires.0 start.requires.1.0 c.before.before.show-input.ensures
 
 pub show-spec : {M : Type 1} → statement M
 show-spec = tie.close (tie.spec slice-aggregate-show-input show-input-requires same_length returns)

@@ -1,6 +1,6 @@
 -- `making::file_of` meets its contract: the answer of the spelling, and then of the writer, is the text's.
 use native.Mathlib.Omega.{arith}
-use Rattle.making.specs.Making.{words-made, none_made}
+use Rattle.making.specs.Making.{words_made, none_made}
 use borrow.Author.Rules.{rules}
 use Rattle.making.proofs.file_of.Statement.{statement}
 use Rattle.making.proofs.file_of.Tie as tie
@@ -34,7 +34,7 @@ returns c =
     let same = at-finish.finish.auto.1.0 in
     let answer = at-finish.finish.ensures in
     let room = at-finish.before.before.before.before.requires in
-    λ old text told. words-made met room (omega arith) same (answer old text told) at-write.write.ensures
+    λ old text told. words_made met room (omega arith) same (answer old text told) at-write.write.ensures
 
 same-length-3 : tie.Need-same-length-3
 same-length-3 c = search rules

@@ -1,5 +1,5 @@
 -- `making::make` meets its contract: the file that is made stands in the bytes.
-use Rattle.making.specs.Making.{file-fits}
+use Rattle.making.specs.Making.{file_fits}
 use borrow.Author.Rules.{rules}
 use Rattle.making.proofs.make.Statement.{statement}
 use Rattle.making.proofs.make.Tie as tie
@@ -15,7 +15,7 @@ print-requires c κs =
     let at-made = c.before.before in
     let at-file = at-made.before.before.before.before.before.before in
     let known = at-file.before.before.before.before.before.requires.0 in
-    file-fits at-made.made.given.1 (at-file.file-of.ensures known.old known.text known.told)
+    file_fits at-made.made.given.1 (at-file.file-of.ensures known.old known.text known.told)
 
 enum-known-made-2 : tie.Need-enum-known-made-2
 enum-known-made-2 c = search rules

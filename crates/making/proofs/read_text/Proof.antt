@@ -3,7 +3,7 @@ use borrow.Author.Rules.{rules}
 use mathlib.Core.Path.{◌≡◌, refl, ◌∙◌}
 use lib.ListN.{length}
 use Rattle.making.specs.Answer.{Knows}
-use Rattle.making.specs.Making.{knows-nothing, knows-further, knows-last}
+use Rattle.making.specs.Making.{knows_nothing, knows_further, knows_last}
 use Rattle.making.proofs.read_text.Statement.{statement}
 use Rattle.making.proofs.read_text.Tie as tie
 
@@ -23,13 +23,13 @@ begin-requires : tie.Need-begin-requires invariant-loop decreases-loop
 begin-requires c κs = search rules
 
 loop-holds : tie.Need-loop-init invariant-loop decreases-loop
-loop-holds c = (refl, knows-nothing _ c.begin.ensures)
+loop-holds c = (refl, knows_nothing _ c.begin.ensures)
 
 read-part-requires : tie.Need-read-part-requires invariant-loop decreases-loop
 read-part-requires c κs = search rules
 
 go-through-requires : tie.Need-go-through-requires invariant-loop decreases-loop
-go-through-requires c κs = c.before.before.before.before.read-part.ensures
+go-through-requires c κs = c.before.before.before.before.read_part.ensures
 
 enum-known-reached : tie.Need-enum-known-reached invariant-loop decreases-loop
 enum-known-reached c = search rules
@@ -46,7 +46,7 @@ returns : tie.Need-returns invariant-loop decreases-loop
 returns c =
     let at-go = c.before.before.before.before.before.before in
     let inv = at-go.before.before.before.before.before.before.before.before.loop.invariant in
-    knows-last c.before.before.reached2.given.1 at-go.go-through.ensures inv.1
+    knows_last c.before.before.reached2.given.1 at-go.go-through.ensures inv.1
 
 enum_told : tie.Need-enum-told invariant-loop decreases-loop
 enum_told c = search rules
@@ -69,7 +69,7 @@ loop-again : tie.Need-loop-preserved invariant-loop decreases-loop
 loop-again c =
     let at-go = c.before.before.before.before.before in
     let inv = at-go.before.before.before.before.before.before.before.before.loop.invariant in
-    (at-go.go-through.auto.1.1.1.0 ∙ inv.0, knows-further c.before.reached.given.1 at-go.go-through.ensures inv.1)
+    (at-go.go-through.auto.1.1.1.0 ∙ inv.0, knows_further c.before.reached.given.1 at-go.go-through.ensures inv.1)
 
 same-length-3 : tie.Need-same-length-3 invariant-loop decreases-loop
 same-length-3 c = c.before.before.loop.invariant.0

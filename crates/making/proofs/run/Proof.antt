@@ -1,6 +1,6 @@
 -- `making::run` is safe and ends: what was read is the state of a text, and the words have the room that `make` asks for.
 use native.Mathlib.Omega.{arith}
-use Rattle.making.specs.Making.{text-known}
+use Rattle.making.specs.Making.{text_known}
 use borrow.Author.Rules.{rules}
 use Rattle.making.proofs.run.Statement.{statement}
 use Rattle.making.proofs.run.Tie as tie
@@ -24,7 +24,7 @@ make-requires : tie.Need-make-requires
 make-requires c κs =
     let at-text = c.before.before.before in
     let read = at-text.before.before.before.read-text in
-    (text-known at-text.text.given.1 read.ensures, omega (arith, read.auto.0))
+    (text_known at-text.text.given.1 read.ensures, omega (arith, read.auto.0))
 
 enum_told : tie.Need-enum-told
 enum_told c = search rules

@@ -2,7 +2,7 @@
 use native.Mathlib.Omega.{arith}
 use mathlib.Core.Path.{sym}
 use lib.Seq.{length-take-le}
-use Rattle.making.specs.Making.{bytes-made, refusal-made}
+use Rattle.making.specs.Making.{bytes_made, refusal_made}
 use borrow.Author.Rules.{rules}
 use Rattle.making.proofs.write.Statement.{statement}
 use Rattle.making.proofs.write.Tie as tie
@@ -28,7 +28,7 @@ same_length c = search rules
 returns : tie.Need-returns
 returns c =
     let at-write = c.before.before.before.before.before in
-    bytes-made _ at-write.before.before.before.least.ensures c.before.writing.given.1 at-write.write.ensures
+    bytes_made _ at-write.before.before.before.least.ensures c.before.writing.given.1 at-write.write.ensures
 
 same-length-2 : tie.Need-same-length-2
 same-length-2 c = search rules
@@ -36,7 +36,7 @@ same-length-2 c = search rules
 returns-2 : tie.Need-returns-2
 returns-2 c =
     let at-write = c.before.before.before.before.before in
-    refusal-made _ at-write.before.before.before.least.ensures c.before.writing2.given.1 at-write.write.ensures
+    refusal_made _ at-write.before.before.before.least.ensures c.before.writing2.given.1 at-write.write.ensures
 
 pub write_spec : {M : Type 1} → statement M
 write_spec =

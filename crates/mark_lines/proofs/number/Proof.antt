@@ -3,7 +3,7 @@ use borrow.Author.Rules.{rules}
 use native.Mathlib.Omega.{arith}
 use Prim.Native.Nat.{◌-◌}
 use lib.ListN.{length}
-use Rattle.mark_lines.proofs.Numbering.{Numbering, numbering-begins, numbering-goes}
+use Rattle.mark_lines.proofs.Numbering.{Numbering, numbering_begins, numbering_goes}
 use Rattle.mark_lines.proofs.number.Statement.{statement}
 use Rattle.mark_lines.proofs.number.Tie as tie
 
@@ -14,7 +14,7 @@ abbrev decreases-loop : tie.decreases-loop
 decreases-loop places₀ i₀ places i = length places₀ - i
 
 loop-holds : tie.Need-loop-init invariant-loop decreases-loop
-loop-holds c = numbering-begins _
+loop-holds c = numbering_begins _
 
 cast-places : tie.Need-overflow-cast-places invariant-loop decreases-loop
 cast-places c = search rules
@@ -32,7 +32,7 @@ loop-less : tie.Need-loop-smaller invariant-loop decreases-loop
 loop-less c = search rules
 
 loop-again : tie.Need-loop-preserved invariant-loop decreases-loop
-loop-again c = numbering-goes c.before.loop.invariant c.loop-test.true
+loop-again c = numbering_goes c.before.loop.invariant c.loop-test.true
 
 same_length : tie.Need-same-length invariant-loop decreases-loop
 same_length c = c.before.loop.invariant.same

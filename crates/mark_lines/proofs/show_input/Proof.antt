@@ -2,7 +2,7 @@
 use native.Mathlib.Omega.{arith}
 use mathlib.Core.Path.{refl, sym}
 use lib.Seq.{length-take-le}
-use Rattle.listing.specs.Shown.{shown-refused, apart_parts, apart-kept, apart-short, apart-told}
+use Rattle.listing.specs.Shown.{shown_refused, apart_parts, apart_kept, apart_short, apart_told}
 use Rattle.mark_lines.specs.Shown.{taken_refused}
 use borrow.Author.Rules.{rules}
 use Rattle.mark_lines.proofs.show_input.Statement.{statement}
@@ -27,45 +27,45 @@ array-share-prefix-words : tie.Need-array-share-prefix-words
 array-share-prefix-words c =
     let at-taken = c.before in
     let at-take-apart = at-taken.before.before.before.before.before in
-    (apart_parts (apart-told at-take-apart.take-apart.ensures at-taken.taken.given.1)).0
+    (apart_parts (apart_told at-take-apart.take-apart.ensures at-taken.taken.given.1)).0
 
 slice-aggregate-show-run : tie.Need-slice-aggregate-show-run
 slice-aggregate-show-run c =
     let at-taken = c.before.before in
     let at-take-apart = at-taken.before.before.before.before.before in
-    sym (length-take-le _ _ (apart_parts (apart-told at-take-apart.take-apart.ensures at-taken.taken.given.1)).0)
+    sym (length-take-le _ _ (apart_parts (apart_told at-take-apart.take-apart.ensures at-taken.taken.given.1)).0)
 
 array-share-prefix-tokens : tie.Need-array-share-prefix-tokens
 array-share-prefix-tokens c =
     let at-taken = c.before.before in
     let at-take-apart = at-taken.before.before.before.before.before in
-    (apart_parts (apart-told at-take-apart.take-apart.ensures at-taken.taken.given.1)).1.0
+    (apart_parts (apart_told at-take-apart.take-apart.ensures at-taken.taken.given.1)).1.0
 
 slice-aggregate-show-run-2 : tie.Need-slice-aggregate-show-run-2
 slice-aggregate-show-run-2 c =
     let at-taken = c.before.before.before in
     let at-take-apart = at-taken.before.before.before.before.before in
-    sym (length-take-le _ _ (apart_parts (apart-told at-take-apart.take-apart.ensures at-taken.taken.given.1)).1.0)
+    sym (length-take-le _ _ (apart_parts (apart_told at-take-apart.take-apart.ensures at-taken.taken.given.1)).1.0)
 
 array-share-prefix-ticks : tie.Need-array-share-prefix-ticks
 array-share-prefix-ticks c =
     let at-taken = c.before.before.before in
     let at-take-apart = at-taken.before.before.before.before.before in
-    (apart_parts (apart-told at-take-apart.take-apart.ensures at-taken.taken.given.1)).1.1
+    (apart_parts (apart_told at-take-apart.take-apart.ensures at-taken.taken.given.1)).1.1
 
 slice-aggregate-show-run-3 : tie.Need-slice-aggregate-show-run-3
 slice-aggregate-show-run-3 c =
     let at-taken = c.before.before.before.before in
     let at-take-apart = at-taken.before.before.before.before.before in
-    sym (length-take-le _ _ (apart_parts (apart-told at-take-apart.take-apart.ensures at-taken.taken.given.1)).1.1)
+    sym (length-take-le _ _ (apart_parts (apart_told at-take-apart.take-apart.ensures at-taken.taken.given.1)).1.1)
 
 show-run-requires : tie.Need-show-run-requires
 show-run-requires c κs =
     let at-taken = c.before.before.before.before.before in
     let at-take-apart = at-taken.before.before.before.before.before in
     let start = at-take-apart.before.before.before.before.before.before in
-    let told = apart-told at-take-apart.take-apart.ensures at-taken.taken.given.1 in
-    (start.requires, (apart-short told, apart-kept told refl refl refl))
+    let told = apart_told at-take-apart.take-apart.ensures at-taken.taken.given.1 in
+    (start.requires, (apart_short told, apart_kept told refl refl refl))
 
 enum-known-taken-2 : tie.Need-enum-known-taken-2
 enum-known-taken-2 c = search rules
@@ -88,8 +88,8 @@ returns-2 c =
     let at-taken2 = at-refused.before.before.before in
     let at-take-apart = at-taken2.before.before.before.before.before in
     let start = at-take-apart.before.before.before.before.before.before in
-    shown-refused at-taken2.taken2.given.0.0
-    (taken_refused (apart-told at-take-apart.take-apart.ensures at-taken2.taken2.given.1) refl)
+    shown_refused at-taken2.taken2.given.0.0
+    (taken_refused (apart_told at-take-apart.take-apart.ensures at-taken2.taken2.given.1) refl)
     at-refused.refused.ensures (omega (arith, start.requires))
 
 pub show-input-spec : {M : Type 1} → statement M

@@ -1,12 +1,12 @@
--- `mark_lines::show_run` meets its contract: the refusal of the repaired log (`marks-refused`), or its lines (`marks-printed`), which fit.
+-- `mark_lines::show_run` meets its contract: the refusal of the repaired log (`marks_refused`), or its lines (`marks_printed`), which fit.
 use native.Mathlib.Omega.{arith}
 use mathlib.Core.Path.{refl, sym, ap}
 use lib.Seq.{length-take-le}
-use Rattle.listing.specs.Shown.{shown, shown-refused}
-use Rattle.marks.specs.Answer.{markingOf}
-use Rattle.mark_lines.specs.Told.{named-front}
+use Rattle.listing.specs.Shown.{shown, shown_refused}
+use Rattle.marks.specs.Answer.{marking_of}
+use Rattle.mark_lines.specs.Told.{named_front}
 use Rattle.mark_lines.specs.Sizes.{lines_fit}
-use Rattle.mark_lines.specs.Leads.{marks-told, marks-part, marks-few, marks-refused, marks-printed, marks-placed}
+use Rattle.mark_lines.specs.Leads.{marks_told, marks_part, marks_few, marks_refused, marks_printed, marks_placed}
 use borrow.Author.Rules.{rules}
 use Rattle.mark_lines.proofs.show_run.Statement.{statement}
 use Rattle.mark_lines.proofs.show_run.Tie as tie
@@ -22,9 +22,9 @@ array-share-prefix-places c = search rules
 
 slice-aggregate-marks-as : tie.Need-slice-aggregate-marks-as
 slice-aggregate-marks-as c =
-    let at-number = c.before.before in
-    let start = at-number.before.before.before.before.before.before.before in
-    sym (length-take-le _ _ (omega (arith, at-number.number.auto.0, start.requires.1.0)))
+    let at_number = c.before.before in
+    let start = at_number.before.before.before.before.before.before.before in
+    sym (length-take-le _ _ (omega (arith, at_number.number.auto.0, start.requires.1.0)))
 
 slice-aggregate-marks-as-2 : tie.Need-slice-aggregate-marks-as-2
 slice-aggregate-marks-as-2 c = search rules
@@ -37,9 +37,9 @@ slice-aggregate-marks-as-4 c = search rules
 
 marks-as-requires : tie.Need-marks-as-requires
 marks-as-requires c κs =
-    let at-number = c.before.before.before.before.before in
-    let start = at-number.before.before.before.before.before.before.before in
-    record { each = length-take-le _ _ (omega (arith, at-number.number.auto.0, start.requires.1.0)); small = omega arith }
+    let at_number = c.before.before.before.before.before in
+    let start = at_number.before.before.before.before.before.before.before in
+    record { each = length-take-le _ _ (omega (arith, at_number.number.auto.0, start.requires.1.0)); small = omega arith }
 
 enum-known-marking : tie.Need-enum-known-marking
 enum-known-marking c = search rules
@@ -54,23 +54,23 @@ array-share-prefix-marked : tie.Need-array-share-prefix-marked
 array-share-prefix-marked c =
     let at-marking2 = c.before in
     let at-marks-as = at-marking2.before.before.before.before.before in
-    marks-part (marks-told at-marks-as.marks-as.ensures (ap markingOf at-marking2.marking2.given.1))
+    marks_part (marks_told at-marks-as.marks_as.ensures (ap marking_of at-marking2.marking2.given.1))
 
 slice-aggregate-listed : tie.Need-slice-aggregate-listed
 slice-aggregate-listed c =
     let at-marking2 = c.before.before in
     let at-marks-as = at-marking2.before.before.before.before.before in
-    sym (length-take-le _ _ (marks-part (marks-told at-marks-as.marks-as.ensures (ap markingOf at-marking2.marking2.given.1))))
+    sym (length-take-le _ _ (marks_part (marks_told at-marks-as.marks_as.ensures (ap marking_of at-marking2.marking2.given.1))))
 
 listed-requires : tie.Need-listed-requires
 listed-requires c κs =
     let at-marking2 = c.before.before.before in
     let at-marks-as = at-marking2.before.before.before.before.before in
-    let at-number = at-marks-as.before.before.before.before.before.before in
-    let start = at-number.before.before.before.before.before.before.before in
-    let named = named-front _ start.args.log.now at-number.number.ensures at-number.number.auto.0 start.requires.1.0 in
-    marks-placed start.requires.1.1 refl _ named
-    (marks-told at-marks-as.marks-as.ensures (ap markingOf at-marking2.marking2.given.1))
+    let at_number = at-marks-as.before.before.before.before.before.before in
+    let start = at_number.before.before.before.before.before.before.before in
+    let named = named_front _ start.args.log.now at_number.number.ensures at_number.number.auto.0 start.requires.1.0 in
+    marks_placed start.requires.1.1 refl _ named
+    (marks_told at-marks-as.marks_as.ensures (ap marking_of at-marking2.marking2.given.1))
 
 same_length : tie.Need-same-length
 same_length c = search rules
@@ -81,8 +81,8 @@ returns c =
     let at-marking = at-refused.before.before.before in
     let at-marks-as = at-marking.before.before.before.before.before in
     let start = at-marks-as.before.before.before.before.before.before.before.before.before.before.before.before.before in
-    shown-refused at-marking.marking.given.0.0
-    (marks-refused start.requires.1.1 refl (marks-told at-marks-as.marks-as.ensures (ap markingOf at-marking.marking.given.1)))
+    shown_refused at-marking.marking.given.0.0
+    (marks_refused start.requires.1.1 refl (marks_told at-marks-as.marks_as.ensures (ap marking_of at-marking.marking.given.1)))
     at-refused.refused.ensures (omega (arith, start.requires.0))
 
 same-length-2 : tie.Need-same-length-2
@@ -93,13 +93,13 @@ returns-2 c =
     let at_Listed = c.before.before in
     let at-marking2 = at_Listed.before.before.before.before in
     let at-marks-as = at-marking2.before.before.before.before.before in
-    let at-number = at-marks-as.before.before.before.before.before.before in
-    let start = at-number.before.before.before.before.before.before.before in
-    let named = named-front _ start.args.log.now at-number.number.ensures at-number.number.auto.0 start.requires.1.0 in
-    let told = marks-told at-marks-as.marks-as.ensures (ap markingOf at-marking2.marking2.given.1) in
-    shown (marks-printed start.requires.1.1 refl _ named told)
+    let at_number = at-marks-as.before.before.before.before.before.before in
+    let start = at_number.before.before.before.before.before.before.before in
+    let named = named_front _ start.args.log.now at_number.number.ensures at_number.number.auto.0 start.requires.1.0 in
+    let told = marks_told at-marks-as.marks_as.ensures (ap marking_of at-marking2.marking2.given.1) in
+    shown (marks_printed start.requires.1.1 refl _ named told)
     at_Listed.listed.ensures.0
-    (lines_fit at_Listed.listed.ensures.1 (length-take-le _ _ (marks-part told)) (marks-few told) start.requires.0)
+    (lines_fit at_Listed.listed.ensures.1 (length-take-le _ _ (marks_part told)) (marks_few told) start.requires.0)
 
 pub show-run-spec : {M : Type 1} → statement M
 show-run-spec =

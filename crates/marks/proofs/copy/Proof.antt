@@ -1,7 +1,7 @@
 -- `marks::copy` meets its contract: the words up to place i are copied. The measure is what is left.
 use borrow.Author.Rules.{rules}
 use native.Mathlib.Omega.{arith}
-use Rattle.marks.proofs.Copying.{Copying, copy-begins, copy-length, copy_goes, copy-ends}
+use Rattle.marks.proofs.Copying.{Copying, copy_begins, copy_length, copy_goes, copy_ends}
 use Prim.Native.Nat.{◌-◌}
 use borrow.Author.Rules.{rules}
 use native.Mathlib.Omega.{arith}
@@ -15,7 +15,7 @@ abbrev decreases-loop : tie.decreases-loop
 decreases-loop kept from to tokens₀ at end₀ i₀ tokens end i = to - i
 
 loop-holds : tie.Need-loop-init invariant-loop decreases-loop
-loop-holds c = copy-begins
+loop-holds c = copy_begins
 
 mul-tokens : tie.Need-overflow-mul-tokens invariant-loop decreases-loop
 mul-tokens c = omega (arith, c.before.before.requires.within, c.loop-test.true, c.before.before.well-formed)
@@ -42,7 +42,7 @@ slice-write-tokens c =
     let start = c.before.before.before in
     omega (
       arith,
-      copy-length start.requires c.before.before.loop.invariant,
+      copy_length start.requires c.before.before.loop.invariant,
       start.requires.room,
       c.before.before.loop.invariant.ended,
       c.before.before.loop.invariant.low,
@@ -73,10 +73,10 @@ loop-again c =
     copy_goes start.requires c.before.before.loop.invariant c.before.loop-test.true
 
 same_length : tie.Need-same-length invariant-loop decreases-loop
-same_length c = copy-length c.before.before.requires c.before.loop.invariant
+same_length c = copy_length c.before.before.requires c.before.loop.invariant
 
 returns : tie.Need-returns invariant-loop decreases-loop
-returns c = copy-ends c.before.before.requires c.before.loop.invariant (omega (arith, c.loop-test.false))
+returns c = copy_ends c.before.before.requires c.before.loop.invariant (omega (arith, c.loop-test.false))
 
 pub copy_spec : {M : Type 1} → statement M
 copy_spec =

@@ -1,9 +1,9 @@
 -- `marks::fits` meets its contract: what is left of the room and what the records passed take of it make the room.
-use Rattle.marks.specs.Restoring.{behindBy}
-use Rattle.base.specs.Telling.{tells-le}
+use Rattle.marks.specs.Restoring.{behind_by}
+use Rattle.base.specs.Telling.{tells_le}
 use borrow.Author.Rules.{rules}
 use native.Mathlib.Omega.{arith}
-use Rattle.marks.proofs.Sizing.{Sizing, size-begins, size-next, size-over, size-goes, size-passed, size-ends, added-small}
+use Rattle.marks.proofs.Sizing.{Sizing, size_begins, size_next, size_over, size_goes, size_passed, size_ends, added_small}
 use Prim.Native.Nat.{◌-◌}
 use mathlib.Core.Path.{ap, ◌∙◌}
 use native.Mathlib.Omega.{arith}
@@ -18,7 +18,7 @@ abbrev decreases-loop : tie.decreases-loop
 decreases-loop edits records lengths tokens room left₀ place₀ i₀ left place i = records - i
 
 loop-holds : tie.Need-loop-init invariant-loop decreases-loop
-loop-holds c = size-begins c.before.before.requires
+loop-holds c = size_begins c.before.before.requires
 
 mul-kind : tie.Need-overflow-mul-kind invariant-loop decreases-loop
 mul-kind c =
@@ -63,7 +63,7 @@ sub-size c =
     let start = c.before.before.before.before.before.before.before in
     let loop = c.before.before.before.before.loop in
     let test = c.before.before.before.loop-test in
-    omega (arith, c.wide.ensures.0, (size-next start.requires loop.invariant test.true).rises)
+    omega (arith, c.wide.ensures.0, (size_next start.requires loop.invariant test.true).rises)
 
 mul-added : tie.Need-overflow-mul-added invariant-loop decreases-loop
 mul-added c =
@@ -94,7 +94,7 @@ added-requires c κs =
     let start = c.before.before.before.before.before.before.before.before in
     let loop = c.before.before.before.before.before.loop in
     let test = c.before.before.before.before.loop-test in
-    record { size = start.requires.size; names = (size-next start.requires loop.invariant test.true).names }
+    record { size = start.requires.size; names = (size_next start.requires loop.invariant test.true).names }
 
 add-size : tie.Need-overflow-add-size invariant-loop decreases-loop
 add-size c =
@@ -105,7 +105,7 @@ add-size c =
       arith,
       c.before.before.wide.ensures.1,
       c.added.ensures,
-      added-small start.requires (size-next start.requires loop.invariant
+      added_small start.requires (size_next start.requires loop.invariant
           test.true).names,
     )
 
@@ -115,7 +115,7 @@ returns c =
     let loop = c.before.before.before.before.before.before.before.loop in
     let test = c.before.before.before.before.before.before.loop-test in
     let wide = c.before.before.before.wide in
-    size-over start.requires loop.invariant test.true (omega (arith, wide.ensures.0, c.before.added.ensures)) c.if1.true
+    size_over start.requires loop.invariant test.true (omega (arith, wide.ensures.0, c.before.added.ensures)) c.if1.true
 
 behind-requires : tie.Need-behind-requires invariant-loop decreases-loop
 behind-requires c κs =
@@ -134,18 +134,18 @@ loop-again c =
     let loop = c.before.before.before.before.before.before.before.before.loop in
     let test = c.before.before.before.before.before.before.before.loop-test in
     let wide = c.before.before.before.before.wide in
-    size-goes start.requires loop.invariant test.true (omega (arith, wide.ensures.0, c.before.before.added.ensures)) (omega
-    (arith, c.before.if1.false)) (c.behind.ensures ∙ ap (behindBy _) wide.ensures.0)
+    size_goes start.requires loop.invariant test.true (omega (arith, wide.ensures.0, c.before.before.added.ensures)) (omega
+    (arith, c.before.if1.false)) (c.behind.ensures ∙ ap (behind_by _) wide.ensures.0)
 
 returns-2 : tie.Need-returns-2 invariant-loop decreases-loop
 returns-2 c =
     let start = c.before.before.before.before.before in
-    size-passed start.requires c.before.before.loop.invariant (omega (arith, c.before.loop-test.false)) c.if2.true
+    size_passed start.requires c.before.before.loop.invariant (omega (arith, c.before.loop-test.false)) c.if2.true
 
 returns-3 : tie.Need-returns-3 invariant-loop decreases-loop
 returns-3 c =
     let start = c.before.before.before.before.before in
-    size-ends start.requires c.before.before.loop.invariant (omega (arith, c.before.loop-test.false)) _ (tells-le _ _ (λ l. l) (λ l. l))
+    size_ends start.requires c.before.before.loop.invariant (omega (arith, c.before.loop-test.false)) _ (tells_le _ _ (λ l. l) (λ l. l))
 
 pub fits-spec : {M : Type 1} → statement M
 fits-spec =

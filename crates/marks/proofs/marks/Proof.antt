@@ -1,6 +1,6 @@
 -- `marks::marks` meets its contract: where the log itself stands for its places and nothing is raised, marks are tokens.
 use native.Mathlib.Omega.{arith}
-use Rattle.marks.proofs.Answering.{marks-plain}
+use Rattle.marks.proofs.Answering.{marks_plain}
 use mathlib.Core.Path.{refl}
 use native.Mathlib.Omega.{arith}
 use borrow.Author.Rules.{rules}
@@ -21,8 +21,8 @@ same-length-3 c = search rules
 
 returns : tie.Need-returns
 returns c =
-    let marks-as = c.before.before.before.before.before.before.marks-as in
-    marks-plain refl marks-as.ensures
+    let marks_as = c.before.before.before.before.before.before.marks_as in
+    marks_plain refl marks_as.ensures
 
 pub marks-spec : {M : Type 1} → statement M
 marks-spec = tie.close (tie.spec marks-as-requires same_length same-length-2 same-length-3 returns)

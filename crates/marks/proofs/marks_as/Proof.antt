@@ -1,7 +1,7 @@
 -- `marks::marks_as` meets its contract: refusals 5 to 12 of the parse, then 15, or the marks.
 use mathlib.Core.Path.{refl}
-use Rattle.parser.specs.Parses.{lent-made, parsed-only10}
-use Rattle.marks.proofs.Answering.{marks-can-put, marks-whole, marks-short, marks-unparsed}
+use Rattle.parser.specs.Parses.{lent_made, parsed_only10}
+use Rattle.marks.proofs.Answering.{marks_can_put, marks_whole, marks_short, marks_unparsed}
 use borrow.Author.Rules.{rules}
 use Rattle.marks.proofs.marks_as.Statement.{statement}
 use Rattle.marks.proofs.marks_as.Tie as tie
@@ -13,7 +13,7 @@ slice-aggregate-parse-tabled-2 : tie.Need-slice-aggregate-parse-tabled-2
 slice-aggregate-parse-tabled-2 c = search rules
 
 parse-tabled-requires : tie.Need-parse-tabled-requires
-parse-tabled-requires c κs = lent-made
+parse-tabled-requires c κs = lent_made
 
 enum-known-parsing : tie.Need-enum-known-parsing
 enum-known-parsing c = search rules
@@ -31,7 +31,7 @@ put-marks-requires c κs =
     let parse-tabled =
     c.before.before.before.before.before.before.before.before.before.before.before.before.before.parse-tabled in
     let parsing = c.before.before.before.before.before.parsing in
-    marks-can-put (parsed-only10 refl parse-tabled.ensures.0) parsing.given.1 parse-tabled.ensures.1 start.pre
+    marks_can_put (parsed_only10 refl parse-tabled.ensures.0) parsing.given.1 parse-tabled.ensures.1 start.pre
 
 enum-known-result : tie.Need-enum-known-result
 enum-known-result c = search rules
@@ -77,7 +77,7 @@ returns c =
     in
     let put-marks = c.before.before.before.before.before.before.before.before.before.put-marks in
     let result = c.before.before.before.before.before.result in
-    marks-whole (parsed-only10 refl parse-tabled.ensures.0) parsing.given.1 start.pre put-marks.ensures result.given.1
+    marks_whole (parsed_only10 refl parse-tabled.ensures.0) parsing.given.1 start.pre put-marks.ensures result.given.1
     c.before.before.clear-words.ensures
 
 same-length-4 : tie.Need-same-length-4
@@ -102,7 +102,7 @@ returns-2 c =
     let enum_told = c.before.before.before.before.before.before.before.before.before.before.before.before.enum_told in
     let clear-words2 = c.before.before.before.before.before.before.before.before.before.before.clear-words2 in
     let clear-words3 = c.before.before.before.before.before.before.clear-words3 in
-    marks-short (parsed-only10 refl parse-tabled.ensures.0) parsing.given.1 start.pre put-marks.ensures enum_told.given.1
+    marks_short (parsed_only10 refl parse-tabled.ensures.0) parsing.given.1 start.pre put-marks.ensures enum_told.given.1
     parse-tabled.kept.1.1.1.1.1.0 parse-tabled.kept.1.1.1.1.1.1.0 put-marks.kept.1.1.1.1.1.1.1.0
     clear-words2.ensures clear-words3.ensures c.before.before.clear-words4.ensures
 
@@ -122,7 +122,7 @@ returns-3 c =
     let parse-tabled =
     c.before.before.before.before.before.before.before.before.before.before.before.before.before.parse-tabled in
     let parsing2 = c.before.before.before.before.before.parsing2 in
-    marks-unparsed (parsed-only10 refl parse-tabled.ensures.0) start.args.tokens.now parsing2.given.1 refl
+    marks_unparsed (parsed_only10 refl parse-tabled.ensures.0) start.args.tokens.now parsing2.given.1 refl
     c.before.before.clear-words5.ensures
 
 pub marks-as-spec : {M : Type 1} → statement M

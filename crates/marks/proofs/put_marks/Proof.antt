@@ -1,6 +1,6 @@
 -- `marks::put_marks` meets its contract: from the records of the run to the words of its marks.
 use native.Mathlib.Omega.{arith}
-use Rattle.marks.proofs.Putting.{put-log, put-can-measure, put-can-size, put-can-restore, put-short, put_whole}
+use Rattle.marks.proofs.Putting.{put_log, put_can_measure, put_can_size, put_can_restore, put_short, put_whole}
 use mathlib.Core.Path.{refl}
 use native.Mathlib.Omega.{arith}
 use borrow.Author.Rules.{rules}
@@ -16,7 +16,7 @@ same_length c = search rules
 returns : tie.Need-returns
 returns c =
     let if1 = c.before.before.before.before.if1 in
-    put-log if1.true c.before.before.put-log.ensures
+    put_log if1.true c.before.before.put_log.ensures
 
 nonterminal-count-requires : tie.Need-nonterminal-count-requires
 nonterminal-count-requires c κs =
@@ -42,7 +42,7 @@ lengths-requires c κs =
     let start = c.before.before.before.before.before.before.before.before.before.before.before.before.before in
     let nonterminal-count = c.before.before.before.before.before.nonterminal-count in
     let gather = c.before.before.before.gather in
-    put-can-measure start.requires gather.ensures nonterminal-count.ensures
+    put_can_measure start.requires gather.ensures nonterminal-count.ensures
 
 slice-aggregate-fits : tie.Need-slice-aggregate-fits
 slice-aggregate-fits c = search rules
@@ -53,7 +53,7 @@ fits-requires c κs =
     c.before.before.before.before.before.before.before.before.before.before.before.before.before.before.before.before in
     let nonterminal-count = c.before.before.before.before.before.before.before.before.nonterminal-count in
     let gather = c.before.before.before.before.before.before.gather in
-    put-can-size start.pre gather.ensures nonterminal-count.ensures c.before.before.lengths2.ensures
+    put_can_size start.pre gather.ensures nonterminal-count.ensures c.before.before.lengths2.ensures
 
 returns-2 : tie.Need-returns-2
 returns-2 c =
@@ -62,7 +62,7 @@ returns-2 c =
     let nonterminal-count = c.before.before.before.before.before.before.before.before.before.before.nonterminal-count in
     let gather = c.before.before.before.before.before.before.before.before.gather in
     let lengths2 = c.before.before.before.before.lengths2 in
-    put-short start.pre gather.ensures nonterminal-count.ensures lengths2.ensures c.before.fits2.ensures refl
+    put_short start.pre gather.ensures nonterminal-count.ensures lengths2.ensures c.before.fits2.ensures refl
     c.if2.false
 
 slice-aggregate-restore : tie.Need-slice-aggregate-restore
@@ -81,7 +81,7 @@ restore-requires c κs =
     let lengths2 = c.before.before.before.before.before.before.before.lengths2 in
     let fits2 = c.before.before.before.before.fits2 in
     let if2 = c.before.before.before.if2 in
-    put-can-restore start.pre gather.ensures nonterminal-count.ensures lengths2.ensures fits2.ensures refl if2.true
+    put_can_restore start.pre gather.ensures nonterminal-count.ensures lengths2.ensures fits2.ensures refl if2.true
 
 same-length-2 : tie.Need-same-length-2
 same-length-2 c = search rules

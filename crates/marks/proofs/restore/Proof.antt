@@ -1,8 +1,8 @@
 -- `marks::restore` meets its contract: what is written and what the records still to come make is the whole result.
 use borrow.Author.Rules.{rules}
 use native.Mathlib.Omega.{arith}
-use Rattle.marks.specs.Restoring.{behindBy}
-use Rattle.marks.proofs.Walking.{Walking, walk_begins, walk-length, walk-can-copy, walk-can-write, walk-goes, walk-can-end, walk_ends}
+use Rattle.marks.specs.Restoring.{behind_by}
+use Rattle.marks.proofs.Walking.{Walking, walk_begins, walk_length, walk_can_copy, walk_can_write, walk_goes, walk_can_end, walk_ends}
 use Prim.Native.Nat.{◌-◌}
 use mathlib.Core.Path.{ap, ◌∙◌}
 use native.Mathlib.Omega.{arith}
@@ -65,7 +65,7 @@ copy-requires c κs =
     let start = c.before.before.before.before.before.before.before.before.before.before.before in
     let loop = c.before.before.before.before.before.loop in
     let test = c.before.before.before.before.loop-test in
-    walk-can-copy start.requires loop.invariant test.true c.before.wide.ensures.0
+    walk_can_copy start.requires loop.invariant test.true c.before.wide.ensures.0
 
 mul-add : tie.Need-overflow-mul-add invariant-loop decreases-loop
 mul-add c =
@@ -100,7 +100,7 @@ add-requires c κs =
     let test = c.before.before.before.before.before.before.before.before.before.loop-test in
     let wide = c.before.before.before.before.before.before.wide in
     let copy = c.before.before.before.before.copy in
-    walk-can-write start.pre loop.invariant test.true wide.ensures.0 copy.ensures start.pre.spells
+    walk_can_write start.pre loop.invariant test.true wide.ensures.0 copy.ensures start.pre.spells
     start.pre.measured copy.auto.1.1.1.0
 
 behind-requires : tie.Need-behind-requires invariant-loop decreases-loop
@@ -124,19 +124,19 @@ loop-again c =
     let wide = c.before.before.before.before.before.before.before.before.before.before.wide in
     let copy = c.before.before.before.before.before.before.before.before.copy in
     let add = c.before.before.before.add in
-    walk-goes start.pre loop.inv test.true wide.ensures.0 copy.ensures add.ensures (c.behind.ensures ∙ ap
-    (behindBy _) wide.ensures.0)
+    walk_goes start.pre loop.inv test.true wide.ensures.0 copy.ensures add.ensures (c.behind.ensures ∙ ap
+    (behind_by _) wide.ensures.0)
 
 copy-requires-2 : tie.Need-copy-requires-2 invariant-loop decreases-loop
 copy-requires-2 c κs =
     let start = c.before.before.before.before.before.before.before.before in
-    walk-can-end start.requires c.before.before.loop.invariant (omega (arith, c.before.loop-test.false))
+    walk_can_end start.requires c.before.before.loop.invariant (omega (arith, c.before.loop-test.false))
 
 same_length : tie.Need-same-length invariant-loop decreases-loop
 same_length c =
     let start = c.before.before.before.before.before.before.before.before.before.before.before in
     let loop = c.before.before.before.before.before.loop in
-    c.before.before.copy2.auto.1.1.1.0 ∙ walk-length start.requires loop.invariant
+    c.before.before.copy2.auto.1.1.1.0 ∙ walk_length start.requires loop.invariant
 
 returns : tie.Need-returns invariant-loop decreases-loop
 returns c =

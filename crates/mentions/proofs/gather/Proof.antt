@@ -4,14 +4,14 @@ use native.Mathlib.Omega.{arith}
 use Prim.Native.Nat.{◌-◌, ◌≤◌, ◌<◌, ◌^◌}
 use mathlib.Core.Path.{◌≡◌, refl, sym, ◌∙◌, subst}
 use lib.ListN.{length}
-use Rattle.grammar.specs.Words.{ruleCount}
+use Rattle.grammar.specs.Words.{rule_count}
 use Rattle.mentions.specs.Mentions.{Gathered, Used, MentionsOf, UsesOf}
-use Rattle.mentions.specs.Gathering.{gather-begins, gather-goes, gather-ends, use-begins, use-goes, use-ends}
+use Rattle.mentions.specs.Gathering.{gather_begins, gather_goes, gather_ends, use_begins, use_goes, use_ends}
 use Rattle.mentions.proofs.gather.Statement.{statement}
 use Rattle.mentions.proofs.gather.Tie as tie
 
 abbrev invariant-loop : tie.invariant-loop
-invariant-loop words places table₀ uses₀ count p₀ table uses p = (p ≤ ruleCount words) × Gathered words p table × Used words p uses ×
+invariant-loop words places table₀ uses₀ count p₀ table uses p = (p ≤ rule_count words) × Gathered words p table × Used words p uses ×
     (length table ≡ length table₀)
 
 abbrev decreases-loop : tie.decreases-loop
@@ -25,7 +25,7 @@ rule-count-requires c κs =
 loop-holds : tie.Need-loop-init invariant-loop decreases-loop
 loop-holds c =
     let start = c.before.before.before.before.before in
-    (omega arith, gather-begins start.requires.1.0 start.requires.1.1.0, use-begins start.requires.1.1.1, refl)
+    (omega arith, gather_begins start.requires.1.0 start.requires.1.1.0, use_begins start.requires.1.1.1, refl)
 
 mention-requires : tie.Need-mention-requires invariant-loop decreases-loop
 mention-requires c κs =
@@ -54,7 +54,7 @@ cast-add-to c = search rules
 add-to-requires : tie.Need-add-to-requires invariant-loop decreases-loop
 add-to-requires c κs =
     let loop = c.before.before.before.before.before.before.before.before.before.before.before.loop in
-    omega (arith, c.left-of.ensures.small, loop.invariant.2.size)
+    omega (arith, c.left_of.ensures.small, loop.invariant.2.size)
 
 add-p : tie.Need-overflow-add-p invariant-loop decreases-loop
 add-p c = search rules
@@ -73,9 +73,9 @@ loop-again c =
     let below = loop-test.true in
     let small : by-mention.result < 2 ^ 64 = search rules in (
       omega (arith, by-rule-count.ensures),
-      gather-goes start.requires.0.shaped loop.invariant.1 (omega (arith, by-rule-count.ensures)) small
+      gather_goes start.requires.0.shaped loop.invariant.1 (omega (arith, by-rule-count.ensures)) small
           by-mention.ensures by-put-plain.ensures,
-      use-goes loop.invariant.2 c.before.before.before.left-of.ensures
+      use_goes loop.invariant.2 c.before.before.before.left_of.ensures
           by-mention.ensures c.before.before.add-to.ensures,
       by-put-plain.ensures.size ∙ (by-mention.ensures.size ∙ loop.invariant.3),
     )
@@ -92,9 +92,9 @@ returns : tie.Need-returns invariant-loop decreases-loop
 returns c =
     let start = c.before.before.before.before.before.before.before in
     let below = c.loop-test.false in
-    let all : c.before.loop.p ≡ ruleCount start.args.words.now = omega
+    let all : c.before.loop.p ≡ rule_count start.args.words.now = omega
     (arith, c.before.before.rule-count.ensures, c.before.loop.invariant.0) in
-    (gather-ends c.before.loop.invariant.1 all, use-ends c.before.loop.invariant.2 all)
+    (gather_ends c.before.loop.invariant.1 all, use_ends c.before.loop.invariant.2 all)
 
 pub gather-spec : {M : Type 1} → statement M
 gather-spec =

@@ -2,7 +2,7 @@
 use borrow.Author.Rules.{rules}
 use native.Mathlib.Omega.{arith}
 use mathlib.Core.Path.{sym, ◌∙◌}
-use Rattle.mentions.specs.Putting.{Mentioned, mention-begins, mention-goes, mention-ends}
+use Rattle.mentions.specs.Putting.{Mentioned, mention_begins, mention_goes, mention_ends}
 use Rattle.mentions.proofs.mention.Statement.{statement}
 use Rattle.mentions.proofs.mention.Tie as tie
 
@@ -16,7 +16,7 @@ size-of-requires : tie.Need-size-of-requires invariant-loop decreases-loop
 size-of-requires c κs = (c.before.before.before.requires.0, c.before.before.before.requires.1.0)
 
 loop-holds : tie.Need-loop-init invariant-loop decreases-loop
-loop-holds c = mention-begins c.type_size.ensures
+loop-holds c = mention_begins c.type_size.ensures
 
 sub-i : tie.Need-overflow-sub-i invariant-loop decreases-loop
 sub-i c = search rules
@@ -29,7 +29,7 @@ symbol-at-requires c κs =
 name-requires : tie.Need-name-requires invariant-loop decreases-loop
 name-requires c κs =
     let start = c.before.before.before.before.before.before.before.before in
-    (omega (arith, c.before.before.before.loop.invariant.size, start.requires.1.0, start.requires.1.1), c.symbol-at.ensures.small)
+    (omega (arith, c.before.before.before.loop.invariant.size, start.requires.1.0, start.requires.1.1), c.symbol_at.ensures.small)
 
 loop-less : tie.Need-loop-smaller invariant-loop decreases-loop
 loop-less c = search rules
@@ -38,13 +38,13 @@ loop-again : tie.Need-loop-preserved invariant-loop decreases-loop
 loop-again c =
     let loop-test = c.before.before.before.before.before.loop-test in
     let loop = c.before.before.before.before.before.before.loop in
-    mention-goes loop.invariant loop-test.true c.before.before.before.symbol-at.ensures c.before.before.name.ensures
+    mention_goes loop.invariant loop-test.true c.before.before.before.symbol_at.ensures c.before.before.name.ensures
 
 same_length : tie.Need-same-length invariant-loop decreases-loop
 same_length c = c.before.loop.invariant.size
 
 returns : tie.Need-returns invariant-loop decreases-loop
-returns c = mention-ends c.before.loop.invariant (omega (arith, c.loop-test.false))
+returns c = mention_ends c.before.loop.invariant (omega (arith, c.loop-test.false))
 
 pub mention-spec : {M : Type 1} → statement M
 mention-spec =

@@ -1,6 +1,6 @@
 -- `mentions::name` meets its contract: a terminal has no row.
 use native.Mathlib.Omega.{arith}
-use Rattle.mentions.specs.Putting.{named_none, named-one}
+use Rattle.mentions.specs.Putting.{named_none, named_one}
 use borrow.Author.Rules.{rules}
 use Rattle.mentions.proofs.name.Statement.{statement}
 use Rattle.mentions.proofs.name.Tie as tie
@@ -23,7 +23,7 @@ same_length c = search rules
 returns-2 : tie.Need-returns-2
 returns-2 c =
     let by-if1 = c.before.before.before.before.before.if1 in
-    named-one (omega (arith, by-if1.false)) c.before.before.before.put.ensures c.with.ensures
+    named_one (omega (arith, by-if1.false)) c.before.before.before.put.ensures c.with.ensures
 
 pub name-spec : {M : Type 1} → statement M
 name-spec = tie.close (tie.spec returns cast-put put-requires with-requires same_length returns-2)

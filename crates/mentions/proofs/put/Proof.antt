@@ -1,6 +1,6 @@
 -- `mentions::put` meets its contract: bit p of row r is bit p % 64 of its word p / 64.
 use native.Mathlib.Omega.{arith}
-use Rattle.mentions.specs.Putting.{put-added}
+use Rattle.mentions.specs.Putting.{put_added}
 use borrow.Author.Rules.{rules}
 use Rattle.mentions.proofs.put.Statement.{statement}
 use Rattle.mentions.proofs.put.Tie as tie
@@ -26,7 +26,7 @@ same_length c = search rules
 returns : tie.Need-returns
 returns c =
     let start = c.before.before.before.before.before.before in
-    put-added start.requires.1 c.before.before.before.with.ensures c.before.before.add-to.ensures
+    put_added start.requires.1 c.before.before.before.with.ensures c.before.before.add-to.ensures
 
 pub put_spec : {M : Type 1} → statement M
 put_spec =

@@ -1,7 +1,7 @@
--- `moves::begins` meets its contract: by the two cases of `beginsBy`.
+-- `moves::begins` meets its contract: by the two cases of `begins_by`.
 use borrow.Author.Tests.{lt-ltb, le-ltb}
 use borrow.Author.Rules.{rules}
-use Rattle.moves.specs.Tests.{beginsBy}
+use Rattle.moves.specs.Tests.{begins_by}
 use Rattle.moves.proofs.begins.Statement.{statement}
 use Rattle.moves.proofs.begins.Tie as tie
 
@@ -18,11 +18,11 @@ has-requires : tie.Need-has-requires
 has-requires c κs = search rules
 
 returns : tie.Need-returns
-unfolding beginsBy
+unfolding begins_by
 returns c = rw (lt-ltb _ _ c.if1.true)
 
 returns-2 : tie.Need-returns-2
-unfolding beginsBy
+unfolding begins_by
 returns-2 c =
     let at_wide = c.before.before in
     rw (le-ltb _ _ at_wide.before.if1.false, c.has.ensures, at_wide.wide.ensures.0)

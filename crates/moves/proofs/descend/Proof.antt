@@ -5,7 +5,7 @@ use native.Mathlib.Omega.{arith}
 use Prim.Native.Nat.{◌<◌, ◌-◌}
 use mathlib.Core.Path.{sym, subst}
 use Rattle.moves.specs.Tests.{told_of}
-use Rattle.moves.specs.Ways.{Going, going-sees, going-counts, going-none, going_more, ends-fits, ends-grows, ends_stuck, ends-bottom}
+use Rattle.moves.specs.Ways.{Going, going_sees, going_counts, going_none, going_more, ends_fits, ends_grows, ends_stuck, ends_bottom}
 use Rattle.moves.proofs.descend.Statement.{statement}
 use Rattle.moves.proofs.descend.Tie as tie
 
@@ -16,13 +16,13 @@ abbrev decreases-loop : tie.decreases-loop
 decreases-loop masks stack t d₀ d = d.height
 
 loop-holds : tie.Need-loop-init invariant-loop decreases-loop
-loop-holds c = going-none _ _ _ _ c.before.before.requires.shows
+loop-holds c = going_none _ _ _ _ c.before.before.requires.shows
 
 top-of-requires : tie.Need-top-of-requires invariant-loop decreases-loop
 top-of-requires c κs =
     let head = c.before.before in
     let start = head.before.before.before in
-    going-sees start.requires.height (omega (arith, c.if1.true)) head.loop.invariant
+    going_sees start.requires.height (omega (arith, c.if1.true)) head.loop.invariant
 
 begins-requires : tie.Need-begins-requires invariant-loop decreases-loop
 begins-requires c κs =
@@ -54,7 +54,7 @@ returns c =
     let at-top-of = at-begins.before in
     let at-if1 = at-top-of.before in
     let head = at-if1.before.before in
-    ends-fits _ _ _ _ _ head.loop.invariant _ at-top-of.top_of.ensures _ _ at-begins.begins.ensures
+    ends_fits _ _ _ _ _ head.loop.invariant _ at-top-of.top_of.ensures _ _ at-begins.begins.ensures
     (omega (arith, at-if1.if1.true)) (told_of _ _ _ at-choose.choose.ensures c.enum_told.given.1)
 
 enum-told-2 : tie.Need-enum-told-2 invariant-loop decreases-loop
@@ -67,7 +67,7 @@ returns-2 c =
     let at-top-of = at-begins.before in
     let at-if1 = at-top-of.before in
     let head = at-if1.before.before in
-    ends-grows _ _ _ _ _ head.loop.invariant _ at-top-of.top_of.ensures _ _ at-begins.begins.ensures
+    ends_grows _ _ _ _ _ head.loop.invariant _ at-top-of.top_of.ensures _ _ at-begins.begins.ensures
     (omega (arith, at-if1.if1.true)) (told_of _ _ _ at-choose.choose.ensures c.enum-told2.given.1)
 
 enum-told-3 : tie.Need-enum-told-3 invariant-loop decreases-loop
@@ -78,7 +78,7 @@ dropped-requires c κs =
     let at-if1 = c.before.before.before.before.before.before in
     let head = at-if1.before.before in
     let start = head.before.before.before in
-    going-counts start.requires (omega (arith, at-if1.if1.true)) head.loop.invariant
+    going_counts start.requires (omega (arith, at-if1.if1.true)) head.loop.invariant
 
 loop-less : tie.Need-loop-smaller invariant-loop decreases-loop
 loop-less c =
@@ -113,7 +113,7 @@ returns-3 c =
     at-empty.empty.ensures (told_of _ _ _ at-choose.choose.ensures c.enum-told4.given.1)
 
 returns-4 : tie.Need-returns-4 invariant-loop decreases-loop
-returns-4 c = ends-bottom _ _ _ _ _ c.if1.false c.before.before.loop.invariant
+returns-4 c = ends_bottom _ _ _ _ _ c.if1.false c.before.before.loop.invariant
 
 pub descend-spec : {M : Type 1} → statement M
 descend-spec =

@@ -1,7 +1,7 @@
--- `moves::empty` meets its contract: by the two cases of `emptyBy`.
+-- `moves::empty` meets its contract: by the two cases of `empty_by`.
 use borrow.Author.Tests.{lt-ltb, le-ltb}
 use borrow.Author.Rules.{rules}
-use Rattle.moves.specs.Tests.{emptyBy}
+use Rattle.moves.specs.Tests.{empty_by}
 use Rattle.moves.proofs.empty.Statement.{statement}
 use Rattle.moves.proofs.empty.Tie as tie
 
@@ -12,11 +12,11 @@ has-requires : tie.Need-has-requires
 has-requires c κs = search rules
 
 returns : tie.Need-returns
-unfolding emptyBy
+unfolding empty_by
 returns c = rw (lt-ltb _ _ c.if1.true)
 
 returns-2 : tie.Need-returns-2
-unfolding emptyBy
+unfolding empty_by
 returns-2 c = rw (le-ltb _ _ c.before.before.if1.false) c.has.ensures
 
 pub empty-spec : {M : Type 1} → statement M

@@ -2,7 +2,7 @@
 use borrow.Author.Rules.{rules}
 use native.Mathlib.Omega.{arith}
 use Prim.Native.Nat.{◌≤◌, ◌-◌}
-use Rattle.moves.specs.Push.{Pushing, pushing-none, pushing-more, pushed}
+use Rattle.moves.specs.Push.{Pushing, pushing_none, pushing_more, pushed}
 use Rattle.moves.proofs.push.Statement.{statement}
 use Rattle.moves.proofs.push.Tie as tie
 
@@ -13,7 +13,7 @@ abbrev decreases-loop : tie.decreases-loop
 decreases-loop blocks from stack₀ at i₀ stack i = 8 - i
 
 loop-holds : tie.Need-loop-init invariant-loop decreases-loop
-loop-holds c = (omega arith, pushing-none _ _ _ _)
+loop-holds c = (omega arith, pushing_none _ _ _ _)
 
 add-stack : tie.Need-overflow-add-stack invariant-loop decreases-loop
 add-stack c = search rules
@@ -40,7 +40,7 @@ loop-less : tie.Need-loop-smaller invariant-loop decreases-loop
 loop-less c = search rules
 
 loop-again : tie.Need-loop-preserved invariant-loop decreases-loop
-loop-again c = (omega arith, pushing-more _ _ _ _ _ _ (omega arith) c.before.before.loop.invariant.1)
+loop-again c = (omega arith, pushing_more _ _ _ _ _ _ (omega arith) c.before.before.loop.invariant.1)
 
 same_length : tie.Need-same-length invariant-loop decreases-loop
 same_length c = c.before.loop.invariant.1.size

@@ -1,7 +1,7 @@
 -- `moves::top_of` meets its contract: a lowest byte that is not 0 is the top.
 use borrow.Author.Rules.{rules}
 use mathlib.Core.Path.{◌∙◌}
-use Rattle.moves.specs.Windows.{seen-top}
+use Rattle.moves.specs.Windows.{seen_top}
 use Rattle.moves.proofs.top_of.Statement.{statement}
 use Rattle.moves.proofs.top_of.Tie as tie
 
@@ -23,7 +23,7 @@ returns c = search rules
 returns-2 : tie.Need-returns-2
 returns-2 c =
     let start = c.before.before.before in
-    c.before.lowest.ensures ∙ seen-top start.requires (λ e. c.if1.false (c.before.lowest.ensures ∙ e))
+    c.before.lowest.ensures ∙ seen_top start.requires (λ e. c.if1.false (c.before.lowest.ensures ∙ e))
 
 pub top-of-spec : {M : Type 1} → statement M
 top-of-spec = tie.close (tie.spec lowest-requires sub-result mul-result shared-slice-read-result returns returns-2)

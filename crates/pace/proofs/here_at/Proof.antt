@@ -1,6 +1,6 @@
 -- `pace::here_at` meets its contract. The loop's invariant: the records passed are those of the place (`Looked`).
 use Rattle.std.proofs.Common.{◌-◌, sym, ◌∙◌, ⊎_elim, arith}
-use Rattle.pace.proofs.Looking.{Looked, looked-none, looked-delete, looked-other, looked-all}
+use Rattle.pace.proofs.Looking.{Looked, looked_none, looked_delete, looked_other, looked_all}
 use Rattle.pace.proofs.here_at.Statement.{statement}
 use Rattle.pace.proofs.here_at.Tie as tie
 
@@ -11,7 +11,7 @@ abbrev decreases-loop : tie.decreases-loop
 decreases-loop edits records at place behind₀ deleted₀ behind deleted = records - behind
 
 loop-holds : tie.Need-loop-init invariant-loop decreases-loop
-loop-holds c = looked-none c.before.requires.within
+loop-holds c = looked_none c.before.requires.within
 
 stands-requires : tie.Need-stands-requires invariant-loop decreases-loop
 stands-requires c κs = c.before.before.requires.rising.room
@@ -34,14 +34,14 @@ loop-again c =
     let there = turn.stands.ensures.yes c.before.before.if1.true in
     let looked = turn.before.loop.invariant in
     ⊎_elim
-    (λ w. looked-delete looked there w.1 (sym kind ∙ w.0.taken))
-    (λ w. looked-other looked there w.1 (λ e. w.0.left (kind ∙ e)))
+    (λ w. looked_delete looked there w.1 (sym kind ∙ w.0.taken))
+    (λ w. looked_other looked there w.1 (λ e. w.0.left (kind ∙ e)))
     c.if2.branch
 
 returns : tie.Need-returns invariant-loop decreases-loop
 returns c =
     let turn = c.before in
-    looked-all turn.before.before.before.requires turn.before.loop.invariant (turn.stands.ensures.no c.if1.false)
+    looked_all turn.before.before.before.requires turn.before.loop.invariant (turn.stands.ensures.no c.if1.false)
 
 pub here-at-spec : {M : Type 1} → statement M
 here-at-spec =

@@ -1,6 +1,6 @@
 -- `pace::report` meets its contract: the refusals of the parse, or the report of its moves.
 use Rattle.std.proofs.Common.{refl, rules}
-use Rattle.pace.specs.Settling.{reports-refused, whole, whole-lent, whole-reports}
+use Rattle.pace.specs.Settling.{reports_refused, whole, whole_lent, whole_reports}
 use Rattle.pace.proofs.report.Statement.{statement}
 use Rattle.pace.proofs.report.Tie as tie
 
@@ -19,8 +19,8 @@ cycles-requires c κs =
     let at-parse-asking = at-parsing.before.before.before.before.before.before in
     let at-unit-one = at-parse-asking.before.before.before in
     let start = at-unit-one.before.before.before.before.before.before in
-    whole-lent
-    (whole start.args.ticks.now _ refl refl at-unit-one.unit-one.ensures at-parse-asking.parse-asking.ensures
+    whole_lent
+    (whole start.args.ticks.now _ refl refl at-unit-one.unit_one.ensures at-parse-asking.parse-asking.ensures
     at-parsing.parsing.given.1)
 
 enum-known-parsing-2 : tie.Need-enum-known-parsing-2
@@ -38,8 +38,8 @@ returns c =
     let at-parse-asking = at-parsing.before.before.before.before.before.before in
     let at-unit-one = at-parse-asking.before.before.before in
     let start = at-unit-one.before.before.before.before.before.before in
-    whole-reports
-    (whole start.args.ticks.now _ refl refl at-unit-one.unit-one.ensures at-parse-asking.parse-asking.ensures
+    whole_reports
+    (whole start.args.ticks.now _ refl refl at-unit-one.unit_one.ensures at-parse-asking.parse-asking.ensures
     at-parsing.parsing.given.1)
     c.cycles.ensures
 
@@ -55,7 +55,7 @@ returns-2 c =
     let at-parse-asking = at-parsing2.before.before.before.before.before.before in
     let at-unit-one = at-parse-asking.before.before.before in
     let start = at-unit-one.before.before.before.before.before.before in
-    reports-refused start.args.ticks.now _ refl refl at-unit-one.unit-one.ensures at-parse-asking.parse-asking.ensures
+    reports_refused start.args.ticks.now _ refl refl at-unit-one.unit_one.ensures at-parse-asking.parse-asking.ensures
     at-parsing2.parsing2.given.1
 
 pub report-spec : {M : Type 1} → statement M

@@ -1,6 +1,6 @@
 use native.Mathlib.Omega.{arith}
 use mathlib.Core.Path.{refl}
-use Rattle.parser.specs.Expanding.{size_low, rule-low, expand-full, expand-no-room, expand-on}
+use Rattle.parser.specs.Expanding.{size_low, rule_low, expand_full, expand_no_room, expand_on}
 use borrow.Author.Rules.{rules}
 use Rattle.parser.proofs.expand.Statement.{statement}
 use Rattle.parser.proofs.expand.Tie as tie
@@ -18,21 +18,21 @@ rule-for-requires : tie.Need-rule-for-requires
 rule-for-requires c κs = search rules
 
 mul-row : tie.Need-overflow-mul-row
-mul-row c = omega (arith, rule-low c.before.before.before.before.before.before.before.requires _ _ c.rule-for.ensures refl)
+mul-row c = omega (arith, rule_low c.before.before.before.before.before.before.before.requires _ _ c.rule-for.ensures refl)
 
 add_row : tie.Need-overflow-add-row
-add_row c = omega (arith, rule-low c.before.before.before.before.before.before.before.requires _ _ c.rule-for.ensures refl)
+add_row c = omega (arith, rule_low c.before.before.before.before.before.before.before.requires _ _ c.rule-for.ensures refl)
 
 add_wide : tie.Need-overflow-add-wide
-add_wide c = omega (arith, rule-low c.before.before.before.before.before.before.before.requires _ _ c.rule-for.ensures refl)
+add_wide c = omega (arith, rule_low c.before.before.before.before.before.before.before.requires _ _ c.rule-for.ensures refl)
 
 mul_wide : tie.Need-overflow-mul-wide
-mul_wide c = omega (arith, rule-low c.before.before.before.before.before.before.before.requires _ _ c.rule-for.ensures refl)
+mul_wide c = omega (arith, rule_low c.before.before.before.before.before.before.before.requires _ _ c.rule-for.ensures refl)
 
 shared-slice-read-wide : tie.Need-shared-slice-read-wide
 shared-slice-read-wide c =
     let pre = c.before.before.before.before.before.before.before.before.requires in
-    omega (arith, rule-low pre _ _ c.before.rule-for.ensures refl, pre.look_up.pushes.rows-size)
+    omega (arith, rule_low pre _ _ c.before.rule-for.ensures refl, pre.look_up.pushes.rows_size)
 
 wide-requires : tie.Need-wide-requires
 wide-requires c κs = search rules
@@ -46,19 +46,19 @@ returns : tie.Need-returns
 returns c =
     let pre = c.before.before.before.before.before.before.before.before.before.before.requires in
     let rule-for = c.before.before.before.rule-for in
-    expand-full pre _ _ rule-for.ensures c.before.wide.ensures.0 _ c.if1.true
+    expand_full pre _ _ rule-for.ensures c.before.wide.ensures.0 _ c.if1.true
 
 returns-2 : tie.Need-returns-2
 returns-2 c =
     let pre = c.before.before.before.before.before.before.before.before.before.before.before.requires in
     let rule-for = c.before.before.before.before.rule-for in
-    expand-no-room pre _ _ rule-for.ensures c.before.before.wide.ensures.0 _ c.before.if1.false c.if2.true
+    expand_no_room pre _ _ rule-for.ensures c.before.before.wide.ensures.0 _ c.before.if1.false c.if2.true
 
 cast-rules : tie.Need-overflow-cast-rules
 cast-rules c =
     let pre = c.before.before.before.before.before.before.before.before.before.before.before.requires in
     let rule-for = c.before.before.before.before.rule-for in
-    omega (arith, rule-low pre _ _ rule-for.ensures refl)
+    omega (arith, rule_low pre _ _ rule-for.ensures refl)
 
 mul-rules : tie.Need-overflow-mul-rules
 mul-rules c = search rules
@@ -71,7 +71,7 @@ push-requires c κs =
     let pre = c.before.before.before.before.before.before.before.before.before.before.before.before.requires in
     let rule-for = c.before.before.before.before.before.rule-for in
     record {
-      words = omega (arith, rule-low pre _ _ rule-for.ensures refl, pre.look_up.pushes.rows-size);
+      words = omega (arith, rule_low pre _ _ rule-for.ensures refl, pre.look_up.pushes.rows_size);
       cells = omega (arith, pre.height, pre.cells);
     }
 
@@ -79,19 +79,19 @@ add_right : tie.Need-overflow-add-right
 add_right c =
     let pre = c.before.before.before.before.before.before.before.before.before.before.before.before.before.before.before.requires in
     let rule-for = c.before.before.before.before.before.before.before.before.rule-for in
-    omega (arith, rule-low pre _ _ rule-for.ensures refl)
+    omega (arith, rule_low pre _ _ rule-for.ensures refl)
 
 mul_right : tie.Need-overflow-mul-right
 mul_right c =
     let pre = c.before.before.before.before.before.before.before.before.before.before.before.before.before.before.before.requires in
     let rule-for = c.before.before.before.before.before.before.before.before.rule-for in
-    omega (arith, rule-low pre _ _ rule-for.ensures refl)
+    omega (arith, rule_low pre _ _ rule-for.ensures refl)
 
 shared-slice-read-right : tie.Need-shared-slice-read-right
 shared-slice-read-right c =
     let pre = c.before.before.before.before.before.before.before.before.before.before.before.before.before.before.before.before.requires in
     let rule-for = c.before.before.before.before.before.before.before.before.before.rule-for in
-    omega (arith, rule-low pre _ _ rule-for.ensures refl, pre.look_up.pushes.sides-size)
+    omega (arith, rule_low pre _ _ rule-for.ensures refl, pre.look_up.pushes.sides_size)
 
 expanded-requires : tie.Need-expanded-requires
 expanded-requires c κs =
@@ -114,7 +114,7 @@ returns-3 c =
     let if1 = c.before.before.before.before.before.before.before.if1 in
     let if2 = c.before.before.before.before.before.before.if2 in
     let push = c.before.before.before.before.push in
-    expand-on pre _ _ rule-for.ensures wide.ensures.0 _ if1.false if2.false push.ensures
+    expand_on pre _ _ rule-for.ensures wide.ensures.0 _ if1.false if2.false push.ensures
     c.expanded.ensures refl
 
 pub expand-spec : {M : Type 1} → statement M

@@ -3,7 +3,7 @@ use native.Mathlib.Omega.{arith}
 use Prim.Native.Nat.{◌-◌, ◌≤◌}
 use lib.ListN.{length}
 use Rattle.base.specs.Telling.{denied}
-use Rattle.parser.specs.Parses.{Spanned, spanned-none, spanned-more, log-low, log-high}
+use Rattle.parser.specs.Parses.{Spanned, spanned_none, spanned_more, log_low, log_high}
 use mathlib.Core.Path.{sym, ◌∙◌}
 use mathlib.Core.Bool.{true≢false}
 use borrow.Author.Tests.{ltb-true, ltb-false}
@@ -29,7 +29,7 @@ returns-2 : tie.Need-returns-2 invariant-loop decreases-loop
 returns-2 c = denied (λ f. omega (arith, f.0.count, c.if2.true))
 
 loop-holds : tie.Need-loop-init invariant-loop decreases-loop
-loop-holds c = (omega arith, spanned-none)
+loop-holds c = (omega arith, spanned_none)
 
 mul-t : tie.Need-overflow-mul-t invariant-loop decreases-loop
 mul-t c = search rules
@@ -53,10 +53,10 @@ loop-again : tie.Need-loop-preserved invariant-loop decreases-loop
 loop-again c =
     let loop = c.before.before.before.before.loop in
     let loop-test = c.before.before.before.loop-test in
-    (omega (arith, loop-test.true), spanned-more _ _ _ _ _ c.before.lesser.ensures c.greater.ensures loop.invariant.1)
+    (omega (arith, loop-test.true), spanned_more _ _ _ _ _ c.before.lesser.ensures c.greater.ensures loop.invariant.1)
 
 returns-3 : tie.Need-returns-3 invariant-loop decreases-loop
-returns-3 c = log-low c.before.before.loop.invariant.1 c.before.loop-test.false c.before.before.loop.invariant.0 c.if3.true
+returns-3 c = log_low c.before.before.loop.invariant.1 c.before.loop-test.false c.before.before.loop.invariant.0 c.if3.true
 
 wide-requires : tie.Need-wide-requires invariant-loop decreases-loop
 wide-requires c κs = search rules
@@ -71,7 +71,7 @@ returns-4 c =
     let if2 = c.before.before.before.before.before.if2 in
     let loop = c.before.before.before.before.loop in
     let loop-test = c.before.before.before.loop-test in
-    log-high loop.invariant.1 loop-test.false loop.invariant.0 _ pre.terminals-low if2.false c.before.before.if3.false
+    log_high loop.invariant.1 loop-test.false loop.invariant.0 _ pre.terminals_low if2.false c.before.before.if3.false
     if1.true
     (record {
       yes = λ e. omega (

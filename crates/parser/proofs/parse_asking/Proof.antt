@@ -1,6 +1,6 @@
 -- `parser::parse_asking` meets its contract: it is `parse_tabled` with tables that were just made.
 use borrow.Author.Rules.{rules}
-use Rattle.parser.specs.Parses.{lent-made}
+use Rattle.parser.specs.Parses.{lent_made}
 use Rattle.parser.proofs.parse_asking.Statement.{statement}
 use Rattle.parser.proofs.parse_asking.Tie as tie
 
@@ -11,7 +11,7 @@ slice-aggregate-parse-tabled-2 : tie.Need-slice-aggregate-parse-tabled-2
 slice-aggregate-parse-tabled-2 c = search rules
 
 parse-tabled-requires : tie.Need-parse-tabled-requires
-parse-tabled-requires c κs = lent-made
+parse-tabled-requires c κs = lent_made
 
 same_length : tie.Need-same-length
 same_length c = search rules

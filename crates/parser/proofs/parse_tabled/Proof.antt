@@ -1,7 +1,7 @@
 -- `parser::parse_tabled` meets its contract: the buffers are cleared behind what the run left, or whole.
 use native.Mathlib.Omega.{arith}
-use Rattle.parser.specs.Asking.{asksBy}
-use Rattle.parser.specs.Parses.{settled-fits, parses-counts, parses-refused, cheap-told}
+use Rattle.parser.specs.Asking.{asks_by}
+use Rattle.parser.specs.Parses.{settled_fits, parses_counts, parses_refused, cheap_told}
 use borrow.Author.Rules.{rules}
 use Rattle.parser.proofs.parse_tabled.Statement.{statement}
 use Rattle.parser.proofs.parse_tabled.Tie as tie
@@ -20,7 +20,7 @@ mul-clear-words c =
     let answer = c.before.before.before.answer in
     omega (
       arith,
-      (settled-fits (asksBy start.args.asking) _ _ start.args.edits.now start.args.rules.now settle.new.1.1.1.1.1.0
+      (settled_fits (asks_by start.args.asking) _ _ start.args.edits.now start.args.rules.now settle.new.1.1.1.1.1.0
           settle.new.1.1.1.1.1.1.0 settle.ensures.0 answer.given.1).0,
       start.good,
     )
@@ -60,11 +60,11 @@ returns c =
     c.before.before.before.before.before.before.before.before.before.before.before.before.before.before.before.before.before.before.before.before.settle in
     let answer = c.before.before.before.before.before.before.before.before.before.before.answer in
     let clear-words = c.before.before.before.before.before.before.clear-words in (
-      parses-counts (asksBy start.args.asking) _ _ start.args.edits.now start.args.rules.now settle.last.1.1.1.1.1.0
+      parses_counts (asks_by start.args.asking) _ _ start.args.edits.now start.args.rules.now settle.last.1.1.1.1.1.0
           settle.last.1.1.1.1.1.1.0 settle.ensures.0 settle.kept.1.1.1.1.1.0 settle.kept.1.1.1.1.1.1.0 _ _
           answer.given.1
           clear-words.ensures c.before.before.clear-words2.ensures,
-      cheap-told _ _ _ settle.ensures.1 answer.given.1,
+      cheap_told _ _ _ settle.ensures.1 answer.given.1,
     )
 
 same-length-5 : tie.Need-same-length-5
@@ -87,11 +87,11 @@ returns-2 c =
     c.before.before.before.before.before.before.before.before.before.before.before.before.before.before.before.before.before.before.before.settle in
     let answer2 = c.before.before.before.before.before.before.before.before.before.answer2 in
     let clear-words3 = c.before.before.before.before.before.before.clear-words3 in (
-      parses-refused (asksBy start.args.asking) _ _ start.args.edits.now start.args.rules.now settle.last.1.1.1.1.1.0
+      parses_refused (asks_by start.args.asking) _ _ start.args.edits.now start.args.rules.now settle.last.1.1.1.1.1.0
           settle.last.1.1.1.1.1.1.0 settle.ensures.0 settle.kept.1.1.1.1.1.0 settle.kept.1.1.1.1.1.1.0 _ _
           answer2.given.1
           clear-words3.ensures c.before.before.clear-words4.ensures,
-      cheap-told _ _ _ settle.ensures.1 answer2.given.1,
+      cheap_told _ _ _ settle.ensures.1 answer2.given.1,
     )
 
 pub parse-tabled-spec : {M : Type 1} → statement M

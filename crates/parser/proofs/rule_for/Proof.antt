@@ -2,8 +2,8 @@ use borrow.Author.Rules.{rules}
 use native.Mathlib.Omega.{arith}
 use mathlib.Core.Path.{ap, ◌∙◌}
 use lib.ListN.{get_or}
-use Rattle.grammar.specs.theory.Tables.{sizedOf}
-use Rattle.parser.specs.Lookup.{Linking, linking-head, linking-more, link-found, link-some}
+use Rattle.grammar.specs.Theory.Tables.{sized_of}
+use Rattle.parser.specs.Lookup.{Linking, linking_head, linking_more, link_found, link_some}
 use Rattle.parser.proofs.rule_for.Statement.{statement}
 use Rattle.parser.proofs.rule_for.Tie as tie
 use Rattle.parser.proofs.rule_for.Reads as reads
@@ -12,7 +12,7 @@ use Rattle.base.proofs.wide.Reads as wide-reads
 use Rattle.sets.proofs.has.Reads as has-reads
 
 abbrev invariant-loop : tie.invariant-loop
-invariant-loop words sides rows top t link₀ link = Linking (sizedOf words) top t link
+invariant-loop words sides rows top t link₀ link = Linking (sized_of words) top t link
 
 abbrev decreases-loop : tie.decreases-loop
 decreases-loop words sides rows top t link₀ link = link
@@ -26,7 +26,7 @@ mul_wide c = omega (arith, c.wide.ensures.0, c.before.before.before.before.requi
 shared-slice-read-wide : tie.Need-shared-slice-read-wide invariant-loop decreases-loop
 shared-slice-read-wide c =
     let pre = c.before.before.before.before.before.requires in
-    omega (arith, c.before.wide.ensures.0, pre.small, pre.pushes.rows-size)
+    omega (arith, c.before.wide.ensures.0, pre.small, pre.pushes.rows_size)
 
 wide-requires-2 : tie.Need-wide-requires-2 invariant-loop decreases-loop
 wide-requires-2 c κs = search rules
@@ -35,7 +35,7 @@ loop-holds : tie.Need-loop-init invariant-loop decreases-loop
 loop-holds c =
     let pre = c.before.before.before.before.before.before.requires in
     let start = c.before.before.before.before.before.before in
-    linking-head pre _ (c.wide2.ensures.0 ∙ ap (λ k. get_or start.args.rows.now k 0) c.before.before.wide.ensures.0)
+    linking_head pre _ (c.wide2.ensures.0 ∙ ap (λ k. get_or start.args.rows.now k 0) c.before.before.wide.ensures.0)
 
 sub-p : tie.Need-overflow-sub-p invariant-loop decreases-loop
 sub-p c = search rules
@@ -48,7 +48,7 @@ mul-has c =
 shared-slice-read-has : tie.Need-shared-slice-read-has invariant-loop decreases-loop
 shared-slice-read-has c =
     let pre = c.before.before.before.before.before.before.before.before.before.requires in
-    omega (arith, c.before.before.loop.invariant.within, pre.pushes.few, pre.pushes.sides-size)
+    omega (arith, c.before.before.loop.invariant.within, pre.pushes.few, pre.pushes.sides_size)
 
 has-requires : tie.Need-has-requires invariant-loop decreases-loop
 has-requires c κs = c.before.before.before.before.before.before.before.before.before.requires.token
@@ -58,7 +58,7 @@ returns c =
     let pre = c.before.before.before.before.before.before.before.before.before.before.before.requires in
     let loop = c.before.before.before.before.loop in
     let loop-test = c.before.before.before.loop-test in
-    link-found pre _ loop-test.true loop.invariant c.before.has.ensures c.if1.true
+    link_found pre _ loop-test.true loop.invariant c.before.has.ensures c.if1.true
 
 mul-wide-2 : tie.Need-overflow-mul-wide-2 invariant-loop decreases-loop
 mul-wide-2 c =
@@ -89,7 +89,7 @@ shared-slice-read-wide-2 c =
     let pre = c.before.before.before.before.before.before.before.before.before.before.before.before.requires in
     let loop = c.before.before.before.before.before.loop in
     let loop-test = c.before.before.before.before.loop-test in
-    omega (arith, loop.invariant.within, loop-test.true, pre.pushes.few, pre.pushes.rows-size)
+    omega (arith, loop.invariant.within, loop-test.true, pre.pushes.few, pre.pushes.rows_size)
 
 wide-requires-3 : tie.Need-wide-requires-3 invariant-loop decreases-loop
 wide-requires-3 c κs = search rules
@@ -100,7 +100,7 @@ loop-less c =
     let loop = c.before.before.before.before.before.before.loop in
     let loop-test = c.before.before.before.before.before.loop-test in
     let has = c.before.before.before.has in
-    (linking-more pre _ _ loop-test.true loop.invariant has.ensures c.before.before.if1.false c.wide3.ensures.0).1
+    (linking_more pre _ _ loop-test.true loop.invariant has.ensures c.before.before.if1.false c.wide3.ensures.0).1
 
 loop-again : tie.Need-loop-preserved invariant-loop decreases-loop
 loop-again c =
@@ -108,12 +108,12 @@ loop-again c =
     let loop = c.before.before.before.before.before.before.loop in
     let loop-test = c.before.before.before.before.before.loop-test in
     let has = c.before.before.before.has in
-    (linking-more pre _ _ loop-test.true loop.invariant has.ensures c.before.before.if1.false c.wide3.ensures.0).0
+    (linking_more pre _ _ loop-test.true loop.invariant has.ensures c.before.before.if1.false c.wide3.ensures.0).0
 
 returns-2 : tie.Need-returns-2 invariant-loop decreases-loop
 returns-2 c =
     let pre = c.before.before.before.before.before.before.before.before.requires in
-    absurd (link-some pre _ c.loop-test.false c.before.loop.invariant)
+    absurd (link_some pre _ c.loop-test.false c.before.loop.invariant)
 
 pub rule-for-spec : {M : Type 1} → statement M
 rule-for-spec =

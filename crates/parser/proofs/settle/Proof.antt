@@ -1,9 +1,9 @@
 -- `parser::settle` meets its contract: the refusals before the run, or the run; and the tables where the words are accepted.
 use native.Mathlib.Omega.{arith}
 use mathlib.Core.Path.{refl}
-use Rattle.base.specs.Blank.{blank-made}
-use Rattle.parser.specs.Asking.{asksBy}
-use Rattle.parser.specs.Parses.{check-refuses, cheap-refused, log-can, admits-refuses, run-can, run-cheap, run-settles}
+use Rattle.base.specs.Blank.{blank_made}
+use Rattle.parser.specs.Asking.{asks_by}
+use Rattle.parser.specs.Parses.{check_refuses, cheap_refused, log_can, admits_refuses, run_can, run_cheap, run_settles}
 use borrow.Author.Rules.{rules}
 use Rattle.parser.proofs.settle.Statement.{statement}
 use Rattle.parser.proofs.settle.Tie as tie
@@ -17,7 +17,7 @@ slice-aggregate-tables-2 c = search rules
 tables-requires : tie.Need-tables-requires
 tables-requires c κs =
     let start = c.before.before.before.before.before.before.before.before.before.before in
-    record { sets-blank = blank-made 65; prices-blank = start.requires.prices-blank; sides-size = start.requires.sides-size; rows-size = refl }
+    record { sets_blank = blank_made 65; prices_blank = start.requires.prices_blank; sides_size = start.requires.sides_size; rows_size = refl }
 
 enum_told : tie.Need-enum-told
 enum_told c = search rules
@@ -26,7 +26,7 @@ admits-requires : tie.Need-admits-requires
 admits-requires c κs =
     let at-tables = c.before.before.before.before.before.before.before.before in
     let start = at-tables.before.before.before.before.before.before.before.before.before.before.before in
-    log-can (asksBy start.args.asking) at-tables.tables.ensures c.enum_told.given.1
+    log_can (asks_by start.args.asking) at-tables.tables.ensures c.enum_told.given.1
 
 enum-told-2 : tie.Need-enum-told-2
 enum-told-2 c = search rules
@@ -47,7 +47,7 @@ run-requires c κs =
     let at-enum-told = at-admits.before in
     let at-tables = at-enum-told.before.before.before.before.before.before.before.before in
     let start = at-tables.before.before.before.before.before.before.before.before.before.before.before in
-    run-can (asksBy start.args.asking) at-tables.tables.ensures at-enum-told.enum_told.given.1 at-admits.admits.ensures _
+    run_can (asks_by start.args.asking) at-tables.tables.ensures at-enum-told.enum_told.given.1 at-admits.admits.ensures _
     at-enum-told2.enum-told2.given.1 (omega arith)
 
 enum-known-admitted : tie.Need-enum-known-admitted
@@ -76,9 +76,9 @@ returns c =
     let at-enum-told = at-admits.before in
     let at-tables = at-enum-told.before.before.before.before.before.before.before.before in
     let start = at-tables.before.before.before.before.before.before.before.before.before.before.before in (
-      run-settles (asksBy start.args.asking) at-tables.tables.ensures at-enum-told.enum_told.given.1
+      run_settles (asks_by start.args.asking) at-tables.tables.ensures at-enum-told.enum_told.given.1
           at-admits.admits.ensures _ _ _ _ at-run.run.result at-enum-told2.enum-told2.given.1 at-run.run.ensures,
-      run-cheap (asksBy start.args.asking) at-tables.tables.ensures at-enum-told.enum_told.given.1 _,
+      run_cheap (asks_by start.args.asking) at-tables.tables.ensures at-enum-told.enum_told.given.1 _,
     )
 
 same-length-5 : tie.Need-same-length-5
@@ -94,9 +94,9 @@ returns-2 c =
     let at-enum-told = at-admits.before in
     let at-tables = at-enum-told.before.before.before.before.before.before.before.before in
     let start = at-tables.before.before.before.before.before.before.before.before.before.before.before in (
-      admits-refuses (asksBy start.args.asking) at-tables.tables.ensures at-enum-told.enum_told.given.1
+      admits_refuses (asks_by start.args.asking) at-tables.tables.ensures at-enum-told.enum_told.given.1
           at-admits.admits.ensures _ _ _ _ at-admitted.admitted.given.1,
-      cheap-refused _ _ _ _,
+      cheap_refused _ _ _ _,
     )
 
 same-length-7 : tie.Need-same-length-7
@@ -110,8 +110,8 @@ returns-3 c =
     let at-checked = c.before in
     let at-tables = at-checked.before.before.before.before.before.before.before.before in
     let start = at-tables.before.before.before.before.before.before.before.before.before.before.before in (
-      check-refuses (asksBy start.args.asking) at-tables.tables.ensures _ _ _ _ _ at-checked.checked.given.1,
-      cheap-refused _ _ _ _,
+      check_refuses (asks_by start.args.asking) at-tables.tables.ensures _ _ _ _ _ at-checked.checked.given.1,
+      cheap_refused _ _ _ _,
     )
 
 pub settle-spec : {M : Type 1} → statement M

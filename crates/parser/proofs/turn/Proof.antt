@@ -1,4 +1,4 @@
-use Rattle.parser.specs.Turns.{descend-can, match-can, turn_match, expand-can, turn-expand, correct-can, turn-correct, turn-full}
+use Rattle.parser.specs.Turns.{descend_can, match_can, turn_match, expand_can, turn_expand, correct_can, turn_correct, turn_full}
 use borrow.Author.Rules.{rules}
 use Rattle.parser.proofs.turn.Statement.{statement}
 use Rattle.parser.proofs.turn.Tie as tie
@@ -17,7 +17,7 @@ token-at-requires c κs = search rules
 descend-requires : tie.Need-descend-requires
 descend-requires c κs =
     let pre = c.before.before.before.before.before.before.before.before.before.before.before.requires in
-    descend-can pre _ c.before.token-at.ensures
+    descend_can pre _ c.before.token-at.ensures
 
 enum-known-way : tie.Need-enum-known-way
 enum-known-way c = search rules
@@ -27,7 +27,7 @@ matched-requires c κs =
     let pre = c.before.before.before.before.before.before.before.before.before.before.before.before.before.before.before.requires in
     let token-at = c.before.before.before.before.before.token-at in
     let descend = c.before.before.before.descend in
-    match-can pre _ token-at.ensures descend.ensures c.before.way.given.1
+    match_can pre _ token-at.ensures descend.ensures c.before.way.given.1
 
 enum-known-way-2 : tie.Need-enum-known-way-2
 enum-known-way-2 c = search rules
@@ -38,7 +38,7 @@ expand-requires c κs =
     let token-at = c.before.before.before.before.before.before.before.token-at in
     let descend = c.before.before.before.before.before.descend in
     let way2 = c.before.before.before.way2 in
-    expand-can pre _ token-at.ensures descend.ensures way2.given.1
+    expand_can pre _ token-at.ensures descend.ensures way2.given.1
 
 enum_told : tie.Need-enum-told
 enum_told c = search rules
@@ -47,7 +47,7 @@ correct-requires : tie.Need-correct-requires
 correct-requires c κs =
     let pre = c.before.before.before.before.before.before.before.before.before.before.before.before.before.before.before.before.requires in
     let token-at = c.before.before.before.before.before.before.token-at in
-    correct-can pre _ token-at.ensures
+    correct_can pre _ token-at.ensures
 
 enum-known-corrected : tie.Need-enum-known-corrected
 enum-known-corrected c = search rules
@@ -81,7 +81,7 @@ returns-2 c =
     let descend = c.before.before.before.before.before.before.before.before.before.before.descend in
     let way2 = c.before.before.before.before.before.before.before.before.way2 in
     let expand = c.before.before.before.before.expand in
-    turn-expand pre _ token-at.ensures _ _ expand.result descend.ensures way2.given.1 expand.ensures
+    turn_expand pre _ token-at.ensures _ _ expand.result descend.ensures way2.given.1 expand.ensures
 
 same-length-4 : tie.Need-same-length-4
 same-length-4 c = search rules
@@ -96,7 +96,7 @@ returns-3 c =
     let descend = c.before.before.before.before.before.before.before.before.before.before.before.descend in
     let enum_told = c.before.before.before.before.before.before.before.before.before.enum_told in
     let correct = c.before.before.before.before.before.before.correct in
-    turn-correct pre _ token-at.ensures _ descend.ensures enum_told.given.1 correct.ensures
+    turn_correct pre _ token-at.ensures _ descend.ensures enum_told.given.1 correct.ensures
     c.before.before.corrected.given.1 c.windowless.ensures
 
 same-length-6 : tie.Need-same-length-6
@@ -112,7 +112,7 @@ returns-4 c =
     let descend = c.before.before.before.before.before.before.before.before.before.descend in
     let enum_told = c.before.before.before.before.before.before.before.enum_told in
     let correct = c.before.before.before.before.correct in
-    turn-full pre _ token-at.ensures _ descend.ensures enum_told.given.1 correct.ensures
+    turn_full pre _ token-at.ensures _ descend.ensures enum_told.given.1 correct.ensures
     c.enum-told2.given.1
 
 pub turn_spec : {M : Type 1} → statement M

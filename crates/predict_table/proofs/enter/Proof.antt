@@ -4,7 +4,7 @@ use native.Mathlib.Omega.{arith}
 use Prim.Native.Nat.{◌≤◌, ◌-◌}
 use mathlib.Core.Path.{sym, ◌∙◌}
 use mathlib.Core.Logic.{⊎_elim}
-use Rattle.predict_table.specs.Entering.{Entered, entering-none, entering-past, entering-put, entering-ends}
+use Rattle.predict_table.specs.Entering.{Entered, entering_none, entering_past, entering_put, entering_ends}
 use Rattle.predict_table.proofs.enter.Statement.{statement}
 use Rattle.predict_table.proofs.enter.Tie as tie
 
@@ -15,7 +15,7 @@ abbrev decreases-loop : tie.decreases-loop
 decreases-loop table₀ k tokens word t₀ table t = 64 - t
 
 loop-holds : tie.Need-loop-init invariant-loop decreases-loop
-loop-holds c = (omega arith, entering-none _ _ _ _)
+loop-holds c = (omega arith, entering_none _ _ _ _)
 
 has-requires : tie.Need-has-requires invariant-loop decreases-loop
 has-requires c κs = search rules
@@ -49,9 +49,9 @@ loop-again c =
     let has = c.before.has.ensures in (
       omega (arith, turn.loop-test.true),
       ⊎_elim
-          (λ w. entering-put inv.1 turn.loop-test.true (omega (arith, turn.loop-test.true, start.requires.0, start.requires.1))
+          (λ w. entering_put inv.1 turn.loop-test.true (omega (arith, turn.loop-test.true, start.requires.0, start.requires.1))
           (sym has ∙ w.0.taken) w.1.ensures.0 w.2)
-          (λ w. entering-past inv.1 (sym has ∙ w.0.left) w.1)
+          (λ w. entering_past inv.1 (sym has ∙ w.0.left) w.1)
           c.if1.branch,
     )
 
@@ -59,7 +59,7 @@ same_length : tie.Need-same-length invariant-loop decreases-loop
 same_length c = c.before.loop.invariant.1.size
 
 returns : tie.Need-returns invariant-loop decreases-loop
-returns c = entering-ends c.before.loop.invariant.1 (omega (arith, c.before.loop.invariant.0, c.loop-test.false))
+returns c = entering_ends c.before.loop.invariant.1 (omega (arith, c.before.loop.invariant.0, c.loop-test.false))
 
 pub enter_spec : {M : Type 1} → statement M
 enter_spec =

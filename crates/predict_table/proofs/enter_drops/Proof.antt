@@ -4,8 +4,8 @@ use native.Mathlib.Omega.{arith}
 use Prim.Native.Nat.{◌≤◌, ◌<◌, ◌-◌}
 use mathlib.Core.Path.{refl, sym, ◌∙◌, subst}
 use mathlib.Core.Logic.{⊎_elim}
-use Rattle.grammar.specs.Words.{nonterminalCount}
-use Rattle.predict_table.specs.Filling.{Filling, filling-all, filling-past, filling-drop}
+use Rattle.grammar.specs.Words.{nonterminal_count}
+use Rattle.predict_table.specs.Filling.{Filling, filling_all, filling_past, filling_drop}
 use Rattle.predict_table.proofs.enter_drops.Statement.{statement}
 use Rattle.predict_table.proofs.enter_drops.Tie as tie
 
@@ -17,12 +17,12 @@ decreases-loop words null follows table₀ count k₀ table k = count - k
 
 -- In a turn, k is a nonterminal of the grammar,
 counted : (c : tie.In-loop invariant-loop decreases-loop) →
-    let start = c.before.before.before.before.before.before in c.before.loop.k < nonterminalCount start.args.words.now
+    let start = c.before.before.before.before.before.before in c.before.loop.k < nonterminal_count start.args.words.now
 counted c = let n = c.before.before.nonterminal-count.ensures in omega (arith, c.loop-test.true)
 
 -- and so below 64.
 low : (c : tie.In-loop invariant-loop decreases-loop) → c.before.loop.k < 64
-low c = let start = c.before.before.before.before.before.before in omega (arith, counted c, start.requires.0.shaped.nonterminals-high)
+low c = let start = c.before.before.before.before.before.before in omega (arith, counted c, start.requires.0.shaped.nonterminals_high)
 
 nonterminal-count-requires : tie.Need-nonterminal-count-requires invariant-loop decreases-loop
 nonterminal-count-requires c κs = c.before.before.before.requires.0.shaped
@@ -63,8 +63,8 @@ loop-again c =
       omega (arith, turn.loop-test.true),
       ⊎_elim
           (λ w.
-          subst (Filling _ _ _) (sym w.6) (filling-drop start.requires.0 inv (counted turn) (sym has ∙ w.0.taken) w.3.ensures))
-          (λ w. filling-past start.requires.0 inv (counted turn) (sym has ∙ w.0.left) w.1)
+          subst (Filling _ _ _) (sym w.6) (filling_drop start.requires.0 inv (counted turn) (sym has ∙ w.0.taken) w.3.ensures))
+          (λ w. filling_past start.requires.0 inv (counted turn) (sym has ∙ w.0.left) w.1)
           c.if1.branch,
     )
 
@@ -74,7 +74,7 @@ same_length c = c.before.loop.invariant.1.size ∙ sym c.before.before.before.be
 returns : tie.Need-returns invariant-loop decreases-loop
 returns c =
     let inv = c.before.loop.invariant in
-    filling-all (omega (arith, inv.0, c.loop-test.false, c.before.before.nonterminal-count.ensures)) refl inv.1
+    filling_all (omega (arith, inv.0, c.loop-test.false, c.before.before.nonterminal-count.ensures)) refl inv.1
 
 pub enter-drops-spec : {M : Type 1} → statement M
 enter-drops-spec =

@@ -3,29 +3,29 @@ use borrow.Author.Rules.{rules}
 use native.Mathlib.Omega.{arith}
 use Prim.Native.Nat.{◌≤◌, ◌<◌, ◌-◌}
 use mathlib.Core.Path.{refl, sym, ◌∙◌, subst}
-use Rattle.grammar.specs.Words.{nonterminalCount, ruleCount}
+use Rattle.grammar.specs.Words.{nonterminal_count, rule_count}
 use Rattle.shape.specs.Accessors.{LeftOf}
-use Rattle.firsts.specs.Firsts.{right-first}
-use Rattle.predict_table.specs.Filling.{Filling, filling-all, filling-rule}
+use Rattle.firsts.specs.Firsts.{right_first}
+use Rattle.predict_table.specs.Filling.{Filling, filling_all, filling_rule}
 use Rattle.predict_table.proofs.enter_rules.Statement.{statement}
 use Rattle.predict_table.proofs.enter_rules.Tie as tie
 
 abbrev invariant-loop : tie.invariant-loop
-invariant-loop words places null firsts table₀ count p₀ table p = (p ≤ count) × Filling words (nonterminalCount words) p table
+invariant-loop words places null firsts table₀ count p₀ table p = (p ≤ count) × Filling words (nonterminal_count words) p table
 
 abbrev decreases-loop : tie.decreases-loop
 decreases-loop words places null firsts table₀ count p₀ table p = count - p
 
 -- In a turn, p is a rule of the grammar,
 counted : (c : tie.In-loop invariant-loop decreases-loop) →
-    let start = c.before.before.before.before.before.before.before in c.before.loop.p < ruleCount start.args.words.now
+    let start = c.before.before.before.before.before.before.before in c.before.loop.p < rule_count start.args.words.now
 counted c = let n = c.before.before.rule-count.ensures in omega (arith, c.loop-test.true)
 
 -- and so below 256.
 low : (c : tie.In-loop invariant-loop decreases-loop) → c.before.loop.p < 256
 low c =
     let start = c.before.before.before.before.before.before.before in
-    omega (arith, counted c, start.requires.0.ready.shaped.rules-high)
+    omega (arith, counted c, start.requires.0.ready.shaped.rules_high)
 
 rule-count-requires : tie.Need-rule-count-requires invariant-loop decreases-loop
 rule-count-requires c κs = c.before.before.before.before.requires.0.ready.shaped
@@ -51,7 +51,7 @@ add-enter c = omega (arith, low c.before.before.before.before)
 enter-requires : tie.Need-enter-requires invariant-loop decreases-loop
 enter-requires c κs =
     let turn = c.before.before.before.before in
-    (omega (arith, c.before.wide.ensures.0, c.before.before.left-of.ensures.small), turn.before.loop.invariant.1.size)
+    (omega (arith, c.before.wide.ensures.0, c.before.before.left_of.ensures.small), turn.before.loop.invariant.1.size)
 
 add-p : tie.Need-overflow-add-p invariant-loop decreases-loop
 add-p c = omega (arith, low c.before.before.before.before.before.before.before)
@@ -66,11 +66,11 @@ loop-again c =
     let turn = wide.before.before.before in
     let start = turn.before.before.before.before.before.before.before in
     let asked = start.requires.0 in
-    let left = subst (LeftOf _ _) (sym wide.wide.ensures.0) wide.before.left-of.ensures in
-    let first = right-first _ asked.ready.shaped _ asked.nulls start.requires.1.0 _ (counted turn)
+    let left = subst (LeftOf _ _) (sym wide.wide.ensures.0) wide.before.left_of.ensures in
+    let first = right_first _ asked.ready.shaped _ asked.nulls start.requires.1.0 _ (counted turn)
     wide.before.before.first-with.ensures in (
       omega (arith, turn.loop-test.true),
-      filling-rule turn.before.loop.invariant.1 (counted turn) left first enter.enter.ensures,
+      filling_rule turn.before.loop.invariant.1 (counted turn) left first enter.enter.ensures,
     )
 
 same_length : tie.Need-same-length invariant-loop decreases-loop
@@ -79,7 +79,7 @@ same_length c = c.before.loop.invariant.1.size ∙ sym c.before.before.before.be
 returns : tie.Need-returns invariant-loop decreases-loop
 returns c =
     let inv = c.before.loop.invariant in
-    filling-all refl (omega (arith, inv.0, c.loop-test.false, c.before.before.rule-count.ensures)) inv.1
+    filling_all refl (omega (arith, inv.0, c.loop-test.false, c.before.before.rule-count.ensures)) inv.1
 
 pub enter-rules-spec : {M : Type 1} → statement M
 enter-rules-spec =

@@ -1,7 +1,7 @@
 -- `predict_table::entry` meets its contract: the word of the cell is read, and each arm is what such a word stands for.
 use borrow.Author.Rules.{rules}
 use native.Mathlib.Omega.{arith}
-use Rattle.predict_table.specs.Reading.{read-error, read-drop, read-rule}
+use Rattle.predict_table.specs.Reading.{read_error, read_drop, read_rule}
 use Rattle.predict_table.proofs.entry.Statement.{statement}
 use Rattle.predict_table.proofs.entry.Tie as tie
 
@@ -35,18 +35,18 @@ wide-requires-3 c κs = search rules
 returns : tie.Need-returns
 returns c =
     let row = c.before.before.before.wide.ensures in
-    read-error _ _ row.0 c.before.before.wide2.ensures.0 c.match.keys1
+    read_error _ _ row.0 c.before.before.wide2.ensures.0 c.match.keys1
 
 returns-2 : tie.Need-returns-2
 returns-2 c =
     let row = c.before.before.before.wide.ensures in
-    read-drop _ _ row.0 c.before.before.wide2.ensures.0 c.match.keys2
+    read_drop _ _ row.0 c.before.before.wide2.ensures.0 c.match.keys2
 
 returns-3 : tie.Need-returns-3
 returns-3 c =
     let row = c.before.before.before.before.wide.ensures in
     let others = c.before.match.rest in
-    read-rule _ _ row.0 c.before.before.before.wide2.ensures.0 (omega (arith, others.0.1, others.1)) c.wide3.ensures.0
+    read_rule _ _ row.0 c.before.before.before.wide2.ensures.0 (omega (arith, others.0.1, others.1)) c.wide3.ensures.0
 
 pub entry_spec : {M : Type 1} → statement M
 entry_spec =

@@ -5,7 +5,7 @@ use Prim.Native.Nat.{◌-◌}
 use mathlib.Core.Path.{◌≡◌, sym, ◌∙◌}
 use lib.ListN.{length}
 use Rattle.base.specs.Telling.{told, denied}
-use Rattle.predicts.specs.Seen.{Seen, seen-begins, seen-goes, seen-fails, seen-ends}
+use Rattle.predicts.specs.Seen.{Seen, seen_begins, seen_goes, seen_fails, seen_ends}
 use Rattle.predicts.proofs.none_shared.Statement.{statement}
 use Rattle.predicts.proofs.none_shared.Tie as tie
 
@@ -21,7 +21,7 @@ rule-count-requires c κs = c.before.before.before.before.before.requires.0.aske
 loop-holds : tie.Need-loop-init invariant-loop decreases-loop
 loop-holds c =
     let start = c.before.before.before.before.before.before in
-    (start.requires.1.size, seen-begins start.requires.1)
+    (start.requires.1.size, seen_begins start.requires.1)
 
 predict-requires : tie.Need-predict-requires invariant-loop decreases-loop
 predict-requires c κs =
@@ -41,10 +41,10 @@ cast-k : tie.Need-overflow-cast-k invariant-loop decreases-loop
 cast-k c = search rules
 
 mul-shared : tie.Need-overflow-mul-shared invariant-loop decreases-loop
-mul-shared c = omega (arith, c.left-of.ensures.small)
+mul-shared c = omega (arith, c.left_of.ensures.small)
 
 slice-read-shared : tie.Need-slice-read-shared invariant-loop decreases-loop
-slice-read-shared c = omega (arith, c.before.left-of.ensures.small, c.before.before.before.before.loop.invariant.0)
+slice-read-shared c = omega (arith, c.before.left_of.ensures.small, c.before.before.before.before.loop.invariant.0)
 
 shared-requires : tie.Need-shared-requires invariant-loop decreases-loop
 shared-requires c κs = search rules
@@ -60,17 +60,17 @@ returns c =
     let rule-count = c.before.before.before.before.before.before.before.rule-count in
     let loop = c.before.before.before.before.before.before.loop in
     let loop-test = c.before.before.before.before.before.loop-test in
-    let left-of = c.before.before.before.left-of in
+    let left_of = c.before.before.before.left_of in
     let predict = c.before.before.before.before.predict in
     let n = rule-count.ensures in
-    denied (seen-fails loop.invariant.1 (omega (arith, loop-test.true)) left-of.ensures predict.ensures
+    denied (seen_fails loop.invariant.1 (omega (arith, loop-test.true)) left_of.ensures predict.ensures
     (c.before.shared.ensures.yes c.if1.true))
 
 add-to-requires : tie.Need-add-to-requires invariant-loop decreases-loop
 add-to-requires c κs =
-    let left-of = c.before.before.before.before.left-of in
+    let left_of = c.before.before.before.before.left_of in
     let loop = c.before.before.before.before.before.before.before.loop in
-    omega (arith, left-of.ensures.small, loop.invariant.0)
+    omega (arith, left_of.ensures.small, loop.invariant.0)
 
 add-p : tie.Need-overflow-add-p invariant-loop decreases-loop
 add-p c =
@@ -78,7 +78,7 @@ add-p c =
     let turn = c.before.before.before.before.before.before.before.before.before.before in
     let start = turn.before.before.before.before.before.before.before in
     let n = turn.before.rule-count.ensures in
-    omega (arith, loop-test.true, start.requires.0.asked.ready.shaped.rules-high)
+    omega (arith, loop-test.true, start.requires.0.asked.ready.shaped.rules_high)
 
 loop-less : tie.Need-loop-smaller invariant-loop decreases-loop
 loop-less c = omega (arith, c.before.before.before.before.before.before.before.before.before.loop-test.true)
@@ -89,13 +89,13 @@ loop-again c =
     let add-to = c.before.before.add-to in
     let loop = c.before.before.before.before.before.before.before.before.before.before.loop in
     let loop-test = c.before.before.before.before.before.before.before.before.before.loop-test in
-    let left-of = c.before.before.before.before.before.before.before.left-of in
+    let left_of = c.before.before.before.before.before.before.before.left_of in
     let predict = c.before.before.before.before.before.before.before.before.predict in
     let shared = c.before.before.before.before.before.shared in
     let if1 = c.before.before.before.before.if1 in
     let n = rule-count.ensures in (
       add-to.ensures.same ∙ loop.invariant.0,
-      seen-goes loop.invariant.1 (omega (arith, loop-test.true)) left-of.ensures
+      seen_goes loop.invariant.1 (omega (arith, loop-test.true)) left_of.ensures
           predict.ensures (shared.ensures.no if1.false) add-to.ensures,
     )
 
@@ -105,7 +105,7 @@ same-length-2 c =
     c.before.loop.invariant.0 ∙ sym start.requires.1.size
 
 returns-2 : tie.Need-returns-2 invariant-loop decreases-loop
-returns-2 c = let n = c.before.before.rule-count.ensures in told (seen-ends c.before.loop.invariant.1 (omega arith))
+returns-2 c = let n = c.before.before.rule-count.ensures in told (seen_ends c.before.loop.invariant.1 (omega arith))
 
 pub none-shared-spec : {M : Type 1} → statement M
 none-shared-spec =

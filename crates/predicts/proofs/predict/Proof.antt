@@ -1,5 +1,5 @@
 -- `predicts::predict` meets its contract: the walk with FOLLOW of the left side behind it finds the predict set.
-use Rattle.predicts.specs.Predicts.{predict-found}
+use Rattle.predicts.specs.Predicts.{predict_found}
 use borrow.Author.Rules.{rules}
 use Rattle.predicts.proofs.predict.Statement.{statement}
 use Rattle.predicts.proofs.predict.Tie as tie
@@ -22,8 +22,8 @@ first-with-requires c κs = search rules
 returns : tie.Need-returns
 returns c =
     let start = c.before.before.before.before.before.before.before in
-    let left-of = c.before.before.left-of in
-    predict-found start.requires.0 start.requires.1 left-of.ensures c.first-with.ensures
+    let left_of = c.before.before.left_of in
+    predict_found start.requires.0 start.requires.1 left_of.ensures c.first-with.ensures
 
 pub predict-spec : {M : Type 1} → statement M
 predict-spec = tie.close (tie.spec left-of-requires cast-behind mul-behind shared-slice-read-behind first-with-requires returns)

@@ -33,12 +33,12 @@ enum-known-part c = search rules
 slice-reshare-prefix-keep : tie.Need-slice-reshare-prefix-keep invariant-loop decreases-loop
 slice-reshare-prefix-keep c =
     let at_part = c.before.before in
-    (bytes_fit _ _ _ at_part.before.before.before.before.read-part.ensures at_part.part.given.1).0
+    (bytes_fit _ _ _ at_part.before.before.before.before.read_part.ensures at_part.part.given.1).0
 
 slice-aggregate-keep : tie.Need-slice-aggregate-keep invariant-loop decreases-loop
 slice-aggregate-keep c =
     let at_part = c.before.before.before in
-    (bytes_fit _ _ _ at_part.before.before.before.before.read-part.ensures at_part.part.given.1).1
+    (bytes_fit _ _ _ at_part.before.before.before.before.read_part.ensures at_part.part.given.1).1
 
 keep-requires : tie.Need-keep-requires invariant-loop decreases-loop
 keep-requires c κs = c.before.before.before.before.before.before.before.before.before.before.loop.invariant.1

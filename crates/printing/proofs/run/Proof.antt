@@ -1,6 +1,6 @@
 -- `printing::run` meets its contract: the room is as long as `print` asks, and what is kept stands in it.
 use native.Mathlib.Omega.{arith}
-use Rattle.printing.specs.Input.{kept-fits}
+use Rattle.printing.specs.Input.{kept_fits}
 use borrow.Author.Rules.{rules}
 use Rattle.printing.proofs.run.Statement.{statement}
 use Rattle.printing.proofs.run.Tie as tie
@@ -21,7 +21,7 @@ print-requires : tie.Need-print-requires
 print-requires c κs =
     let at-input = c.before.before in
     let left = at-input.before.before.before.read-input in
-    (omega (arith, left.auto.0), kept-fits _ _ _ left.ensures at-input.input.given.1)
+    (omega (arith, left.auto.0), kept_fits _ _ _ left.ensures at-input.input.given.1)
 
 enum_told : tie.Need-enum-told
 enum_told c = search rules

@@ -1,6 +1,6 @@
 -- `printing::run_marks` meets its contract: the room is as long as `print_marks` asks, and what is kept stands in it.
 use native.Mathlib.Omega.{arith}
-use Rattle.printing.specs.Input.{kept-fits}
+use Rattle.printing.specs.Input.{kept_fits}
 use borrow.Author.Rules.{rules}
 use Rattle.printing.proofs.run_marks.Statement.{statement}
 use Rattle.printing.proofs.run_marks.Tie as tie
@@ -21,7 +21,7 @@ print-marks-requires : tie.Need-print-marks-requires
 print-marks-requires c κs =
     let at-input = c.before.before in
     let left = at-input.before.before.before.read-input in
-    (omega (arith, left.auto.0), kept-fits _ _ _ left.ensures at-input.input.given.1)
+    (omega (arith, left.auto.0), kept_fits _ _ _ left.ensures at-input.input.given.1)
 
 enum_told : tie.Need-enum-told
 enum_told c = search rules

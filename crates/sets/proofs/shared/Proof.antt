@@ -8,7 +8,7 @@ use lib.Dec.{eqb}
 use lib.Bits.{bit_and, and_lt}
 use Rattle.sets.specs.Operations.{Shared}
 use Rattle.base.specs.Telling.{Tells}
-use Rattle.sets.specs.Laws.{some-member, shared-some, shared-none}
+use Rattle.sets.specs.Laws.{some_member, shared_some, shared_none}
 use Rattle.sets.proofs.shared.Statement.{statement}
 use Rattle.sets.proofs.shared.Tie as tie
 
@@ -17,8 +17,8 @@ tells a b ha hb =
     record {
       yes = λ e.
           let some = eqb-false (bit_and a b) 0 (not-true _ e) in
-          shared-some a b (some-member 64 (bit_and a b) (and_lt 64 a b ha hb) (omega arith));
-      no = λ e both. shared-none a b (eqb-true (bit_and a b) 0 (not-false _ e)) both;
+          shared_some a b (some_member 64 (bit_and a b) (and_lt 64 a b ha hb) (omega arith));
+      no = λ e both. shared_none a b (eqb-true (bit_and a b) 0 (not-false _ e)) both;
     }
 
 returns : tie.Need-returns

@@ -1,7 +1,7 @@
 -- `shape::end_right` meets its contract: each exit by its field of `EndRight`.
 use native.Mathlib.Omega.{arith}
 use Rattle.base.specs.Telling.{denied}
-use Rattle.shape.proofs.Judging.{size_small, end_short, end-cost, end-tells}
+use Rattle.shape.proofs.Judging.{size_small, end_short, end_cost, end_tells}
 use borrow.Author.Rules.{rules}
 use Rattle.shape.proofs.end_right.Statement.{statement}
 use Rattle.shape.proofs.end_right.Tie as tie
@@ -31,7 +31,7 @@ shared-slice-read-if2 : tie.Need-shared-slice-read-if2
 shared-slice-read-if2 c = search rules
 
 returns-2 : tie.Need-returns-2
-returns-2 c = denied (end-cost c.before.before.before.before.header-size.ensures c.if2.true)
+returns-2 c = denied (end_cost c.before.before.before.before.header-size.ensures c.if2.true)
 
 add-result : tie.Need-overflow-add-result
 add-result c = search rules
@@ -48,7 +48,7 @@ returns-3 c =
     let at_wide = at-if1.before in
     let at-header-size = at_wide.before in
     let start = at-header-size.before.before in
-    end-tells start.requires at-header-size.header-size.ensures at_wide.wide.ensures.0 at-if1.if1.true
+    end_tells start.requires at-header-size.header-size.ensures at_wide.wide.ensures.0 at-if1.if1.true
     c.before.if2.false
 
 pub end-right-spec : {M : Type 1} → statement M

@@ -1,6 +1,6 @@
 -- `shape::header` meets its contract: the header lies inside the list.
 use native.Mathlib.Omega.{arith}
-use Rattle.shape.proofs.Reading.{front-inside, header_at}
+use Rattle.shape.proofs.Reading.{front_inside, header_at}
 use borrow.Author.Rules.{rules}
 use Rattle.shape.proofs.header.Statement.{statement}
 use Rattle.shape.proofs.header.Tie as tie
@@ -9,7 +9,7 @@ mul-result : tie.Need-overflow-mul-result
 mul-result c = search rules
 
 shared-slice-read-result : tie.Need-shared-slice-read-result
-shared-slice-read-result c = omega (arith, front-inside _ c.before.requires.0)
+shared-slice-read-result c = omega (arith, front_inside _ c.before.requires.0)
 
 returns : tie.Need-returns
 returns c = header_at c.before.args.words.now _ c.before.requires.1

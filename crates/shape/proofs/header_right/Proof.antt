@@ -1,14 +1,14 @@
 -- `shape::header_right` meets its contract: each exit by its field of `HeaderRight`.
 use native.Mathlib.Omega.{arith}
 use Rattle.base.specs.Telling.{denied}
-use Rattle.shape.proofs.Judging.{terminals-as, marks-as, restart-as, header-tells}
-use Rattle.grammar.specs.theory.Headers.{size-least}
+use Rattle.shape.proofs.Judging.{terminals_as, marks_as, restart_as, header_tells}
+use Rattle.grammar.specs.Theory.Headers.{size_least}
 use borrow.Author.Rules.{rules}
 use Rattle.shape.proofs.header_right.Statement.{statement}
 use Rattle.shape.proofs.header_right.Tie as tie
 
 returns : tie.Need-returns
-returns c = denied (λ h. omega (arith, h.end.inside, h.terminals.from, size-least c.before.before.args.words.now))
+returns c = denied (λ h. omega (arith, h.end.inside, h.terminals.from, size_least c.before.before.args.words.now))
 
 terminals-requires : tie.Need-terminals-requires
 terminals-requires c κs = search rules
@@ -17,7 +17,7 @@ between-requires : tie.Need-between-requires
 between-requires c κs = search rules
 
 returns-2 : tie.Need-returns-2
-returns-2 c = denied (λ h. c.before.between.ensures.no c.if2.false (terminals-as _ c.before.before.terminals.ensures h))
+returns-2 c = denied (λ h. c.before.between.ensures.no c.if2.false (terminals_as _ c.before.before.terminals.ensures h))
 
 shared-slice-read-between : tie.Need-shared-slice-read-between
 shared-slice-read-between c = search rules
@@ -49,7 +49,7 @@ marks-right-requires c κs = search rules
 returns-5 : tie.Need-returns-5
 returns-5 c =
     let at-terminals = c.before.before.before.before.before.before.before.before.before.before.before.before in
-    denied (λ h. c.before.marks-right.ensures.no c.if5.false (marks-as _ at-terminals.terminals.ensures h))
+    denied (λ h. c.before.marks-right.ensures.no c.if5.false (marks_as _ at-terminals.terminals.ensures h))
 
 shared-slice-read-between-3 : tie.Need-shared-slice-read-between-3
 shared-slice-read-between-3 c = search rules
@@ -78,7 +78,7 @@ returns-7 c =
     let at-marks-right = at-restart-word.before.before.before.before.before.before.before in
     let at-terminals = at-marks-right.before.before.before.before.before.before.before.before.before.before.before in
     let restart = at-restart-word.restart-word.ensures in
-    denied (λ h. c.before.restart-right.ensures.no c.if7.false (restart-as _ at-terminals.terminals.ensures restart h))
+    denied (λ h. c.before.restart-right.ensures.no c.if7.false (restart_as _ at-terminals.terminals.ensures restart h))
 
 end-right-requires : tie.Need-end-right-requires
 end-right-requires c κs =
@@ -107,7 +107,7 @@ returns-8 c =
     let at-if2 = at-between2.before.before in
     let at-between = at-if2.before in
     let at-terminals = at-between.before in
-    header-tells _ at-terminals.terminals.ensures at-restart-word.restart-word.ensures
+    header_tells _ at-terminals.terminals.ensures at-restart-word.restart-word.ensures
     (at-between.between.ensures.yes at-if2.if2.true) (at-between2.between2.ensures.yes at-if3.if3.true)
     (at-between3.between3.ensures.yes at-if4.if4.true) (at-marks-right.marks-right.ensures.yes at-if5.if5.true)
     (at-between4.between4.ensures.yes at-if6.if6.true) (at-restart-right.restart-right.ensures.yes c.before.if7.true)

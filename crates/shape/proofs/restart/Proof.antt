@@ -1,12 +1,12 @@
 -- `shape::restart` meets its contract: words with the shape are long enough.
 use native.Mathlib.Omega.{arith}
-use Rattle.shape.proofs.Reading.{front-inside}
+use Rattle.shape.proofs.Reading.{front_inside}
 use borrow.Author.Rules.{rules}
 use Rattle.shape.proofs.restart.Statement.{statement}
 use Rattle.shape.proofs.restart.Tie as tie
 
 restart-word-requires : tie.Need-restart-word-requires
-restart-word-requires c κs = omega (arith, front-inside _ c.before.requires)
+restart-word-requires c κs = omega (arith, front_inside _ c.before.requires)
 
 returns : tie.Need-returns
 returns c = search rules

@@ -1,7 +1,7 @@
 -- `shape::rule_right` meets its contract: each exit by its field of `RuleRight`.
 use native.Mathlib.Omega.{arith}
 use Rattle.base.specs.Telling.{denied}
-use Rattle.shape.proofs.Placing.{rule-tells}
+use Rattle.shape.proofs.Placing.{rule_tells}
 use borrow.Author.Rules.{rules}
 use Rattle.shape.proofs.rule_right.Statement.{statement}
 use Rattle.shape.proofs.rule_right.Tie as tie
@@ -49,7 +49,7 @@ returns-5 : tie.Need-returns-5
 returns-5 c =
     let at_wide = c.before.before.before in
     let at-if2 = at_wide.before.before in
-    rule-tells _ _ _ _ _ at_wide.wide.ensures.0 at-if2.if2.true c.before.before.if3.false (omega arith)
+    rule_tells _ _ _ _ _ at_wide.wide.ensures.0 at-if2.if2.true c.before.before.if3.false (omega arith)
     c.symbols-right.ensures
 
 pub rule-right-spec : {M : Type 1} → statement M

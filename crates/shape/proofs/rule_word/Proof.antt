@@ -1,7 +1,7 @@
 -- `shape::rule_word` meets its contract: the table of places is exact, and the rule lies inside the list.
 use native.Mathlib.Omega.{arith}
 use mathlib.Core.Path.{◌∙◌}
-use Rattle.shape.specs.Inside.{place_inside, right-length, right-small}
+use Rattle.shape.specs.Inside.{place_inside, right_length, right_small}
 use borrow.Author.Rules.{rules}
 use Rattle.shape.proofs.rule_word.Statement.{statement}
 use Rattle.shape.proofs.rule_word.Tie as tie
@@ -18,18 +18,18 @@ wide-requires c κs = search rules
 add-result : tie.Need-overflow-add-result
 add-result c =
     let pre = c.before.before.before.before.requires in
-    omega (arith, c.wide.ensures.1, right-small _ pre.0.shaped _ pre.1.0)
+    omega (arith, c.wide.ensures.1, right_small _ pre.0.shaped _ pre.1.0)
 
 mul-result : tie.Need-overflow-mul-result
 mul-result c =
     let pre = c.before.before.before.before.requires in
-    omega (arith, c.wide.ensures.1, right-small _ pre.0.shaped _ pre.1.0)
+    omega (arith, c.wide.ensures.1, right_small _ pre.0.shaped _ pre.1.0)
 
 shared-slice-read-result : tie.Need-shared-slice-read-result
 shared-slice-read-result c =
     let pre = c.before.before.before.before.before.requires in
     let at = c.before.wide.ensures.0 ∙ pre.0.exact _ pre.1.0 in
-    omega (arith, at, right-length _ pre.0.shaped _ pre.1.0, place_inside _ pre.0.shaped _ pre.1.0)
+    omega (arith, at, right_length _ pre.0.shaped _ pre.1.0, place_inside _ pre.0.shaped _ pre.1.0)
 
 returns : tie.Need-returns
 returns c =

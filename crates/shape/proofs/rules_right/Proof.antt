@@ -5,7 +5,7 @@ use native.Mathlib.Omega.{arith}
 use mathlib.Core.Path.{◌≡◌, refl, ◌∙◌}
 use Prim.Native.Nat.{◌-◌}
 use lib.ListN.{length, length-set}
-use Rattle.shape.proofs.Judging.{header-some, size_small}
+use Rattle.shape.proofs.Judging.{header_some, size_small}
 use Rattle.shape.proofs.Placing.{Passed, begun, more, over, refused, fits_word}
 use Rattle.shape.proofs.rules_right.Statement.{statement}
 use Rattle.shape.proofs.rules_right.Tie as tie
@@ -17,19 +17,19 @@ abbrev decreases-loop : tie.decreases-loop
 decreases-loop words places₀ count n t at₀ p₀ places at p = count - p
 
 shared-slice-read-wide : tie.Need-shared-slice-read-wide invariant-loop decreases-loop
-shared-slice-read-wide c = omega (arith, header-some _ c.before.before.before.requires.0)
+shared-slice-read-wide c = omega (arith, header_some _ c.before.before.before.requires.0)
 
 wide-requires : tie.Need-wide-requires invariant-loop decreases-loop
 wide-requires c κs = search rules
 
 shared-slice-read-n : tie.Need-shared-slice-read-n invariant-loop decreases-loop
-shared-slice-read-n c = omega (arith, header-some _ c.before.before.before.before.before.requires.0)
+shared-slice-read-n c = omega (arith, header_some _ c.before.before.before.before.before.requires.0)
 
 terminals-requires : tie.Need-terminals-requires invariant-loop decreases-loop
-terminals-requires c κs = omega (arith, header-some _ c.before.before.before.before.before.requires.0)
+terminals-requires c κs = omega (arith, header_some _ c.before.before.before.before.before.requires.0)
 
 header-size-requires : tie.Need-header-size-requires invariant-loop decreases-loop
-header-size-requires c κs = omega (arith, header-some _ c.before.before.before.before.before.before.requires.0)
+header-size-requires c κs = omega (arith, header_some _ c.before.before.before.before.before.before.requires.0)
 
 wide-requires-2 : tie.Need-wide-requires-2 invariant-loop decreases-loop
 wide-requires-2 c κs = search rules

@@ -1,5 +1,5 @@
 -- `shape::shape` meets its contract: each part is tested in turn, and all together are the shape.
-use Rattle.shape.specs.Parts.{header_of, terminals-of, ready}
+use Rattle.shape.specs.Parts.{header_of, terminals_of, ready}
 use Rattle.shape.proofs.Placing.{shut_out}
 use borrow.Author.Rules.{rules}
 use Rattle.shape.proofs.shape.Statement.{statement}
@@ -15,7 +15,7 @@ terminals-right-requires : tie.Need-terminals-right-requires
 terminals-right-requires c κs = c.before.header-right.ensures.yes c.if1.true
 
 returns-2 : tie.Need-returns-2
-returns-2 c = shut_out (λ s. c.before.terminals-right.ensures.no c.if2.false (terminals-of _ s))
+returns-2 c = shut_out (λ s. c.before.terminals-right.ensures.no c.if2.false (terminals_of _ s))
 
 rules-right-requires : tie.Need-rules-right-requires
 rules-right-requires c κs =

@@ -4,10 +4,10 @@ use native.Mathlib.Omega.{arith}
 use Rattle.base.specs.Telling.{told, denied}
 use Prim.Native.Nat.{ℕ, ◌+◌, ◌-◌, ◌*◌, ◌≤◌, ◌<◌}
 use lib.ListN.{length}
-use Rattle.grammar.specs.Words.{terminalCount}
+use Rattle.grammar.specs.Words.{terminal_count}
 use borrow.Author.Count.{below_more}
 use Rattle.shape.specs.Parts.{TerminalRight}
-use Rattle.shape.proofs.Judging.{header-some, cost-as, reliability-as, terminal-right}
+use Rattle.shape.proofs.Judging.{header_some, cost_as, reliability_as, terminal_right}
 use Rattle.shape.proofs.terminals_right.Statement.{statement}
 use Rattle.shape.proofs.terminals_right.Tie as tie
 
@@ -20,7 +20,7 @@ decreases-loop words count from t₀ t = count - t
 -- In a turn t is a terminal,
 counted : (c : tie.In-loop invariant-loop decreases-loop) →
     let start = c.before.before.before.before.before.before in
-    c.before.loop.t < terminalCount start.args.words.now
+    c.before.loop.t < terminal_count start.args.words.now
 counted c =
     let at_wide = c.before.before.before in
     omega (arith, at_wide.wide.ensures.0, at_wide.before.terminals.ensures, c.loop-test.true)
@@ -34,13 +34,13 @@ inside c =
     omega (arith, counted c, start.requires.end.inside, c.before.before.header-size.ensures)
 
 terminals-requires : tie.Need-terminals-requires invariant-loop decreases-loop
-terminals-requires c κs = omega (arith, header-some _ c.before.requires)
+terminals-requires c κs = omega (arith, header_some _ c.before.requires)
 
 wide-requires : tie.Need-wide-requires invariant-loop decreases-loop
 wide-requires c κs = search rules
 
 header-size-requires : tie.Need-header-size-requires invariant-loop decreases-loop
-header-size-requires c κs = omega (arith, header-some _ c.before.before.before.requires)
+header-size-requires c κs = omega (arith, header_some _ c.before.before.before.requires)
 
 loop-holds : tie.Need-loop-init invariant-loop decreases-loop
 loop-holds c = (omega arith, λ k below above. absurd (omega arith))
@@ -67,7 +67,7 @@ returns c =
     denied
     (λ all.
     c.before.between.ensures.no c.if1.false
-    (cost-as _ turn.before.header-size.ensures _ (all _ turn.loop.invariant.0 (counted here))))
+    (cost_as _ turn.before.header-size.ensures _ (all _ turn.loop.invariant.0 (counted here))))
 
 mul-between-3 : tie.Need-overflow-mul-between-3 invariant-loop decreases-loop
 mul-between-3 c = search rules
@@ -94,7 +94,7 @@ returns-2 c =
     denied
     (λ all.
     c.before.between2.ensures.no c.if2.false
-    (reliability-as _ turn.before.header-size.ensures _ (all _ turn.loop.invariant.0 (counted here))))
+    (reliability_as _ turn.before.header-size.ensures _ (all _ turn.loop.invariant.0 (counted here))))
 
 add-t : tie.Need-overflow-add-t invariant-loop decreases-loop
 add-t c = search rules
@@ -109,7 +109,7 @@ loop-again c =
     let turn = at-between.before.before.before in
     let cost = at-between.between.ensures.yes at-if1.if1.true in
     let reliability = c.before.between2.ensures.yes c.if2.true in
-    (omega arith, below_more _ _ turn.loop.invariant.1 (λ _. terminal-right _ turn.before.header-size.ensures _ cost reliability))
+    (omega arith, below_more _ _ turn.loop.invariant.1 (λ _. terminal_right _ turn.before.header-size.ensures _ cost reliability))
 
 returns-3 : tie.Need-returns-3 invariant-loop decreases-loop
 returns-3 c =

@@ -5,14 +5,14 @@ use native.Mathlib.Omega.{arith}
 use lib.ListN.{length}
 use lib.Dec.{eqb}
 use borrow.Author.Rules.{rules}
-use Rattle.base.specs.Telling.{Tells, denied, tells-eq}
-use Rattle.grammar.specs.Words.{word, tickUnit, UnitOne}
+use Rattle.base.specs.Telling.{Tells, denied, tells_eq}
+use Rattle.grammar.specs.Words.{word, tick_unit, UnitOne}
 use Rattle.shape.proofs.unit_one.Statement.{statement}
 use Rattle.shape.proofs.unit_one.Tie as tie
 
 unit-tells : (ws : List ℕ) → 6 ≤ length ws → Tells (UnitOne ws) (eqb (word ws 5) 1)
-unfolding tickUnit
-unit-tells ws six = tells-eq (word ws 5) 1 (λ e. record { six = six; one = e }) (λ u. u.one)
+unfolding tick_unit
+unit-tells ws six = tells_eq (word ws 5) 1 (λ e. record { six = six; one = e }) (λ u. u.one)
 
 returns : tie.Need-returns
 returns c = denied (λ u. omega (arith, c.if1.true, u.six))

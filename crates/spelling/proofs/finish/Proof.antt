@@ -1,6 +1,6 @@
 -- `spelling::finish` meets its contract: each state at the end is a law of specs/Steps.antt.
 use native.Mathlib.Omega.{arith}
-use Rattle.spelling.specs.Steps.{finished_as, ends-between, ends-within, ends-stopped}
+use Rattle.spelling.specs.Steps.{finished_as, ends_between, ends_within, ends_stopped}
 use borrow.Author.Rules.{rules}
 use Rattle.spelling.proofs.finish.Statement.{statement}
 use Rattle.spelling.proofs.finish.Tie as tie
@@ -38,7 +38,7 @@ same_length c = search rules
 returns : tie.Need-returns
 returns c =
     let cleared = c.before.before in
-    finished_as cleared.before.before.before.state.given.1 (ends-between _ (omega arith) cleared.clear-words.ensures)
+    finished_as cleared.before.before.before.state.given.1 (ends_between _ (omega arith) cleared.clear-words.ensures)
 
 same-length-2 : tie.Need-same-length-2
 same-length-2 c = search rules
@@ -48,7 +48,7 @@ returns-2 c =
     let counted = c.before.before.before.before in
     let at_store = counted.before.before.before in
     finished_as at_store.before.before.before.state2.given.1
-    (ends-within _ (omega arith) at_store.store.ensures counted.one_more.ensures c.before.before.clear-words2.ensures)
+    (ends_within _ (omega arith) at_store.store.ensures counted.one_more.ensures c.before.before.clear-words2.ensures)
 
 same-length-3 : tie.Need-same-length-3
 same-length-3 c = search rules
@@ -57,7 +57,7 @@ returns-3 : tie.Need-returns-3
 returns-3 c =
     let cleared = c.before.before.before in
     finished_as cleared.before.before.before.state3.given.1
-    (ends-stopped _ (omega arith) c.one-more2.ensures cleared.clear-words3.ensures)
+    (ends_stopped _ (omega arith) c.one-more2.ensures cleared.clear-words3.ensures)
 
 pub finish_spec : {M : Type 1} → statement M
 finish_spec =

@@ -1,6 +1,6 @@
 -- `spelling::step` meets its contract: each state with a blank and with another byte is a law of specs/Steps.antt.
 use native.Mathlib.Omega.{arith}
-use Rattle.spelling.specs.Steps.{took-as, blank-between, blank-within, between-went-on, within-went-on, stays}
+use Rattle.spelling.specs.Steps.{took_as, blank_between, blank_within, between_went_on, within_went_on, stays}
 use borrow.Author.Rules.{rules}
 use Rattle.spelling.proofs.step.Statement.{statement}
 use Rattle.spelling.proofs.step.Tie as tie
@@ -12,7 +12,7 @@ blank-requires : tie.Need-blank-requires
 blank-requires c κs = search rules
 
 returns : tie.Need-returns
-returns c = took-as c.before.before.before.state.given.1 (blank-between _ (c.before.blank.ensures.yes c.if1.true))
+returns c = took_as c.before.before.before.state.given.1 (blank_between _ (c.before.blank.ensures.yes c.if1.true))
 
 go-on-requires : tie.Need-go-on-requires
 go-on-requires c κs = search rules
@@ -37,7 +37,7 @@ returns-2 c =
     let at_store = c.before.before.before in
     let met = at_store.before.before.before.before.before.state2.given.1 in
     let ends = at_store.before.before.before.blank2.ensures.yes at_store.before.before.if2.true in
-    took-as met (blank-within _ (omega arith) ends at_store.store.ensures c.one_more.ensures)
+    took_as met (blank_within _ (omega arith) ends at_store.store.ensures c.one_more.ensures)
 
 go-on-requires-2 : tie.Need-go-on-requires-2
 go-on-requires-2 c κs = search rules
@@ -47,16 +47,16 @@ enum-known-state-3 c = search rules
 
 returns-3 : tie.Need-returns-3
 returns-3 c =
-    took-as c.before.before.before.before.state.given.1
-    (between-went-on _ _ (c.before.before.blank.ensures.no c.before.if1.false) c.go_on.ensures)
+    took_as c.before.before.before.before.state.given.1
+    (between_went_on _ _ (c.before.before.blank.ensures.no c.before.if1.false) c.go_on.ensures)
 
 returns-4 : tie.Need-returns-4
 returns-4 c =
-    took-as c.before.before.before.before.state2.given.1
-    (within-went-on _ _ (c.before.before.blank2.ensures.no c.before.if2.false) c.go-on2.ensures)
+    took_as c.before.before.before.before.state2.given.1
+    (within_went_on _ _ (c.before.before.blank2.ensures.no c.before.if2.false) c.go-on2.ensures)
 
 returns-5 : tie.Need-returns-5
-returns-5 c = took-as c.before.state3.given.1 (stays _ _)
+returns-5 c = took_as c.before.state3.given.1 (stays _ _)
 
 pub step_spec : {M : Type 1} → statement M
 step_spec =

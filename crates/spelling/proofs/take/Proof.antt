@@ -5,7 +5,7 @@ use Prim.Native.Nat.{◌-◌, ◌≤◌}
 use mathlib.Core.Path.{◌≡◌, refl, ◌∙◌}
 use lib.ListN.{length, take}
 use Rattle.spelling.specs.Answer.{Took}
-use Rattle.spelling.specs.Steps.{took-none, took_more, took-all}
+use Rattle.spelling.specs.Steps.{took_none, took_more, took_all}
 use Rattle.spelling.proofs.take.Statement.{statement}
 use Rattle.spelling.proofs.take.Tie as tie
 
@@ -17,7 +17,7 @@ abbrev decreases-loop : tie.decreases-loop
 decreases-loop part words₀ reached₀ i₀ words reached i = length part - i
 
 loop-holds : tie.Need-loop-init invariant-loop decreases-loop
-loop-holds c = (omega arith, refl, took-none c.before.before.args.part.now _ _)
+loop-holds c = (omega arith, refl, took_none c.before.before.args.part.now _ _)
 
 shared-slice-read-step : tie.Need-shared-slice-read-step invariant-loop decreases-loop
 shared-slice-read-step c = search rules
@@ -46,7 +46,7 @@ same_length c = c.before.loop.invariant.1
 returns : tie.Need-returns invariant-loop decreases-loop
 returns c =
     let at-loop = c.before in
-    took-all at-loop.before.before.before.args.part.now at-loop.loop.i c.loop-test.false at-loop.loop.invariant.2
+    took_all at-loop.before.before.before.args.part.now at-loop.loop.i c.loop-test.false at-loop.loop.invariant.2
 
 pub take_spec : {M : Type 1} → statement M
 take_spec =

@@ -1,10 +1,10 @@
 -- `strings::gather` meets its contract: k entries are taken from the parser's tables. The measure is what is left.
-use Rattle.strings.specs.Gathering.{Gathered, rule-small}
+use Rattle.strings.specs.Gathering.{Gathered, rule_small}
 use mathlib.Core.Path.{refl}
 use borrow.Author.Rules.{rules}
 use native.Mathlib.Omega.{arith}
 use Rattle.strings.specs.Gathering.{Gathered}
-use Rattle.strings.proofs.Filling.{gather-begins, gather-goes, gather-ends}
+use Rattle.strings.proofs.Filling.{gather_begins, gather_goes, gather_ends}
 use Prim.Native.Nat.{◌+◌, ◌-◌, ◌≤◌}
 use borrow.Author.Rules.{rules}
 use native.Mathlib.Omega.{arith}
@@ -24,23 +24,23 @@ nonterminal-count-requires c κs =
     start.requires.shaped
 
 loop-holds : tie.Need-loop-init invariant-loop decreases-loop
-loop-holds c = (omega arith, gather-begins)
+loop-holds c = (omega arith, gather_begins)
 
 add-table : tie.Need-overflow-add-table invariant-loop decreases-loop
 add-table c =
     let start = c.before.before.before.before.before.before.before in
-    omega (arith, c.before.loop.invariant.0, start.requires.shaped.nonterminals-high, c.before.before.nonterminal-count.ensures)
+    omega (arith, c.before.loop.invariant.0, start.requires.shaped.nonterminals_high, c.before.before.nonterminal-count.ensures)
 
 mul-table : tie.Need-overflow-mul-table invariant-loop decreases-loop
 mul-table c =
     let start = c.before.before.before.before.before.before.before in
-    omega (arith, c.before.loop.invariant.0, start.requires.shaped.nonterminals-high, c.before.before.nonterminal-count.ensures)
+    omega (arith, c.before.loop.invariant.0, start.requires.shaped.nonterminals_high, c.before.before.nonterminal-count.ensures)
 
 shared-slice-read-table : tie.Need-shared-slice-read-table invariant-loop decreases-loop
 shared-slice-read-table c =
     let start = c.before.before.before.before.before.before.before.before in
     let nonterminal-count = c.before.before.before.nonterminal-count in
-    omega (arith, start.requires.cheap.prices-size, start.requires.shaped.nonterminals-high, nonterminal-count.ensures)
+    omega (arith, start.requires.cheap.prices_size, start.requires.shaped.nonterminals_high, nonterminal-count.ensures)
 
 cast-table : tie.Need-overflow-cast-table invariant-loop decreases-loop
 cast-table c =
@@ -48,7 +48,7 @@ cast-table c =
     let nonterminal-count = c.before.before.before.nonterminal-count in
     omega (
       arith,
-      rule-small _ _ _ start.requires.cheap c.before.before.loop.k (omega (
+      rule_small _ _ _ start.requires.cheap c.before.before.loop.k (omega (
         arith,
         c.before.loop-test.true,
         nonterminal-count.ensures,
@@ -61,7 +61,7 @@ add-table-2 c =
     let nonterminal-count = c.before.before.before.nonterminal-count in
     omega (
       arith,
-      rule-small _ _ _ start.requires.cheap c.before.before.loop.k (omega (
+      rule_small _ _ _ start.requires.cheap c.before.before.loop.k (omega (
         arith,
         c.before.loop-test.true,
         nonterminal-count.ensures,
@@ -74,7 +74,7 @@ mul-table-2 c =
     let nonterminal-count = c.before.before.before.nonterminal-count in
     omega (
       arith,
-      rule-small _ _ _ start.requires.cheap c.before.before.loop.k (omega (
+      rule_small _ _ _ start.requires.cheap c.before.before.loop.k (omega (
         arith,
         c.before.loop-test.true,
         nonterminal-count.ensures,
@@ -88,12 +88,12 @@ shared-slice-read-table-2 c =
     let loop = c.before.before.before.loop in
     omega (
       arith,
-      rule-small _ _ _ start.requires.cheap loop.k (omega (
+      rule_small _ _ _ start.requires.cheap loop.k (omega (
         arith,
         c.before.before.loop-test.true,
         nonterminal-count.ensures,
       )),
-      start.requires.cheap.sides-size,
+      start.requires.cheap.sides_size,
     )
 
 mul-table-3 : tie.Need-overflow-mul-table-3 invariant-loop decreases-loop
@@ -101,14 +101,14 @@ mul-table-3 c =
     let start = c.before.before.before.before.before.before.before.before.before in
     let nonterminal-count = c.before.before.before.before.nonterminal-count in
     let loop = c.before.before.before.loop in
-    omega (arith, loop.invariant.0, start.requires.shaped.nonterminals-high, nonterminal-count.ensures)
+    omega (arith, loop.invariant.0, start.requires.shaped.nonterminals_high, nonterminal-count.ensures)
 
 slice-write-table : tie.Need-slice-write-table invariant-loop decreases-loop
 slice-write-table c =
     let start = c.before.before.before.before.before.before.before.before.before in
     let nonterminal-count = c.before.before.before.before.nonterminal-count in
     let loop = c.before.before.before.loop in
-    omega (arith, loop.invariant.1.size, start.requires.size, start.requires.shaped.nonterminals-high, nonterminal-count.ensures)
+    omega (arith, loop.invariant.1.size, start.requires.size, start.requires.shaped.nonterminals_high, nonterminal-count.ensures)
 
 add-k : tie.Need-overflow-add-k invariant-loop decreases-loop
 add-k c = search rules
@@ -122,7 +122,7 @@ loop-again c =
     let nonterminal-count = c.before.before.before.before.nonterminal-count in
     let loop = c.before.before.before.loop in (
       omega (arith, c.before.before.loop-test.true),
-      gather-goes (omega (arith, loop.invariant.1.size, start.requires.size, start.requires.shaped.nonterminals-high, nonterminal-count.ensures))
+      gather_goes (omega (arith, loop.invariant.1.size, start.requires.size, start.requires.shaped.nonterminals_high, nonterminal-count.ensures))
           loop.invariant.1 refl,
     )
 
@@ -131,7 +131,7 @@ same_length c = c.before.loop.invariant.1.size
 
 returns : tie.Need-returns invariant-loop decreases-loop
 returns c =
-    gather-ends (omega (arith, c.before.loop.invariant.0, c.loop-test.false, c.before.before.nonterminal-count.ensures))
+    gather_ends (omega (arith, c.before.loop.invariant.0, c.loop-test.false, c.before.before.nonterminal-count.ensures))
     c.before.loop.invariant.1
 
 pub gather-spec : {M : Type 1} → statement M

@@ -1,7 +1,7 @@
 -- `strings::lengths` meets its contract: behind d rounds the lengths are those at depth d; a round that changes nothing is the last.
 use borrow.Author.Rules.{rules}
 use native.Mathlib.Omega.{arith}
-use Rattle.strings.specs.Lengths.{Measured, measured-first, measured-goes, measured-stays, measured-all, can-round}
+use Rattle.strings.specs.Lengths.{Measured, measured_first, measured_goes, measured_stays, measured_all, can_round}
 use lib.ListN.{length}
 use Prim.Native.Nat.{◌-◌, ◌≤◌}
 use mathlib.Core.Path.{◌≡◌, refl, sym, ◌∙◌}
@@ -19,7 +19,7 @@ decreases-loop table depth lengths₀ next₀ d₀ lengths next d = depth - d
 loop-holds : tie.Need-loop-init invariant-loop decreases-loop
 loop-holds c = (
   omega arith,
-  measured-first _ _ c.before.before.requires.spells c.before.before.requires.size c.before.before.requires.zeros,
+  measured_first _ _ c.before.before.requires.spells c.before.before.requires.size c.before.before.requires.zeros,
   refl,
 )
 
@@ -30,7 +30,7 @@ round-requires : tie.Need-round-requires invariant-loop decreases-loop
 round-requires c κs =
     let start = c.before.before.before.before.before.before in
     let loop = c.before.before.before.loop in
-    can-round _ _ start.requires.spells loop.d loop.invariant.1 c.before.before.loop-test.true loop.invariant.2
+    can_round _ _ start.requires.spells loop.d loop.invariant.1 c.before.before.loop-test.true loop.invariant.2
 
 slice-aggregate-renew : tie.Need-slice-aggregate-renew invariant-loop decreases-loop
 slice-aggregate-renew c = search rules
@@ -58,7 +58,7 @@ returns c =
     let test = c.before.before.before.before.before.before.before.before.before.before.loop-test in
     let round = c.before.before.before.before.before.before.before.round in
     let renew = c.before.before.before.renew in
-    measured-stays _ _ start.requires.spells loop.d loop.invariant.1 round.ensures renew.ensures c.if1.false test.true
+    measured_stays _ _ start.requires.spells loop.d loop.invariant.1 round.ensures renew.ensures c.if1.false test.true
 
 add-d : tie.Need-overflow-add-d invariant-loop decreases-loop
 add-d c = search rules
@@ -74,7 +74,7 @@ loop-again c =
     let round = c.before.before.before.before.before.before.before.round in
     let renew = c.before.before.before.renew in (
       omega (arith, test.true),
-      measured-goes _ _ start.requires.spells loop.d loop.invariant.1 round.ensures renew.ensures,
+      measured_goes _ _ start.requires.spells loop.d loop.invariant.1 round.ensures renew.ensures,
       round.ensures.size ∙ loop.invariant.2,
     )
 
@@ -86,7 +86,7 @@ same-length-2 c =
 returns-2 : tie.Need-returns-2 invariant-loop decreases-loop
 returns-2 c =
     let start = c.before.before.before.before in
-    measured-all _ _ start.requires.spells c.before.loop.invariant.1 (omega (arith, c.before.loop.invariant.0, c.loop-test.false))
+    measured_all _ _ start.requires.spells c.before.loop.invariant.1 (omega (arith, c.before.loop.invariant.0, c.loop-test.false))
 
 pub lengths-spec : {M : Type 1} → statement M
 lengths-spec =

@@ -2,7 +2,7 @@
 use borrow.Author.Rules.{rules}
 use native.Mathlib.Omega.{arith}
 use Rattle.strings.specs.Lengths.{Renewed}
-use Rattle.strings.proofs.Filling.{renew-begins, renew-goes, renew-ends, differs}
+use Rattle.strings.proofs.Filling.{renew_begins, renew_goes, renew_ends, differs}
 use Prim.Native.Nat.{◌-◌, ◌≤◌}
 use borrow.Author.Rules.{rules}
 use native.Mathlib.Omega.{arith}
@@ -18,7 +18,7 @@ abbrev decreases-loop : tie.decreases-loop
 decreases-loop count next lengths₀ changed₀ k₀ lengths changed k = count - k
 
 loop-holds : tie.Need-loop-init invariant-loop decreases-loop
-loop-holds c = (omega arith, renew-begins)
+loop-holds c = (omega arith, renew_begins)
 
 mul-new : tie.Need-overflow-mul-new invariant-loop decreases-loop
 mul-new c = omega (arith, c.before.before.requires.0)
@@ -64,7 +64,7 @@ loop-again c =
     let loop = c.before.before.before.before.loop in
     let test = c.before.before.before.loop-test in (
       omega (arith, test.true),
-      renew-goes (omega (arith, loop.invariant.1.size, start.requires.1, test.true)) loop.invariant.1 refl
+      renew_goes (omega (arith, loop.invariant.1.size, start.requires.1, test.true)) loop.invariant.1 refl
           (λ f.
           ⊎_elim
           (λ w. differs w.1 f)
@@ -76,7 +76,7 @@ same_length : tie.Need-same-length invariant-loop decreases-loop
 same_length c = c.before.loop.invariant.1.size
 
 returns : tie.Need-returns invariant-loop decreases-loop
-returns c = renew-ends (omega (arith, c.before.loop.invariant.0, c.loop-test.false)) c.before.loop.invariant.1
+returns c = renew_ends (omega (arith, c.before.loop.invariant.0, c.loop-test.false)) c.before.loop.invariant.1
 
 pub renew-spec : {M : Type 1} → statement M
 renew-spec =

@@ -2,7 +2,7 @@
 use borrow.Author.Rules.{rules}
 use native.Mathlib.Omega.{arith}
 use Rattle.strings.specs.Lengths.{Rounded}
-use Rattle.strings.proofs.Filling.{round-begins, round-goes, round-ends}
+use Rattle.strings.proofs.Filling.{round_begins, round_goes, round_ends}
 use Prim.Native.Nat.{◌-◌, ◌≤◌}
 use borrow.Author.Rules.{rules}
 use native.Mathlib.Omega.{arith}
@@ -16,7 +16,7 @@ abbrev decreases-loop : tie.decreases-loop
 decreases-loop table count lengths next₀ k₀ next k = count - k
 
 loop-holds : tie.Need-loop-init invariant-loop decreases-loop
-loop-holds c = (omega arith, round-begins)
+loop-holds c = (omega arith, round_begins)
 
 mul-sum-of : tie.Need-overflow-mul-sum-of invariant-loop decreases-loop
 mul-sum-of c =
@@ -26,7 +26,7 @@ mul-sum-of c =
 shared-slice-read-sum-of : tie.Need-shared-slice-read-sum-of invariant-loop decreases-loop
 shared-slice-read-sum-of c =
     let start = c.before.before.before.before.before.before in
-    omega (arith, start.requires.few, start.requires.table-size, c.before.loop-test.true)
+    omega (arith, start.requires.few, start.requires.table_size, c.before.loop-test.true)
 
 sum-of-requires : tie.Need-sum-of-requires invariant-loop decreases-loop
 sum-of-requires c κs =
@@ -43,7 +43,7 @@ slice-write-next : tie.Need-slice-write-next invariant-loop decreases-loop
 slice-write-next c =
     let start = c.before.before.before.before.before.before.before in
     let loop = c.before.before.before.loop in
-    omega (arith, loop.invariant.1.size, start.requires.next-size, start.requires.few, c.before.before.loop-test.true)
+    omega (arith, loop.invariant.1.size, start.requires.next_size, start.requires.few, c.before.before.loop-test.true)
 
 add-k : tie.Need-overflow-add-k invariant-loop decreases-loop
 add-k c = search rules
@@ -56,7 +56,7 @@ loop-again c =
     let start = c.before.before.before.before.before.before.before in
     let loop = c.before.before.before.loop in (
       omega (arith, c.before.before.loop-test.true),
-      round-goes (omega (arith, loop.invariant.1.size, start.requires.next-size, start.requires.few, c.before.before.loop-test.true))
+      round_goes (omega (arith, loop.invariant.1.size, start.requires.next_size, start.requires.few, c.before.before.loop-test.true))
           loop.invariant.1 c.sum_of.ensures,
     )
 
@@ -64,7 +64,7 @@ same_length : tie.Need-same-length invariant-loop decreases-loop
 same_length c = c.before.loop.invariant.1.size
 
 returns : tie.Need-returns invariant-loop decreases-loop
-returns c = round-ends (omega (arith, c.before.loop.invariant.0, c.loop-test.false)) c.before.loop.invariant.1
+returns c = round_ends (omega (arith, c.before.loop.invariant.0, c.loop-test.false)) c.before.loop.invariant.1
 
 pub round-spec : {M : Type 1} → statement M
 round-spec =

@@ -1,19 +1,19 @@
 -- `strings::spell` meets its contract: what is written and what is still to be spelled make the string. The measure is the steps left.
 use borrow.Author.Rules.{rules}
 use native.Mathlib.Omega.{arith}
-use Rattle.strings.specs.Work.{Spelling, stepsLeft}
+use Rattle.strings.specs.Work.{Spelling, steps_left}
 use Rattle.strings.specs.Turns.{
-  spelling-begins,
-  spelling-ends,
-  spelling-up,
-  spelling-token,
-  spelling-room,
-  spelling-pass,
-  spelling-high,
-  spelling-down,
-  steps-up-less,
-  steps-more-less,
-  steps-down-less,
+  spelling_begins,
+  spelling_ends,
+  spelling_up,
+  spelling_token,
+  spelling_room,
+  spelling_pass,
+  spelling_high,
+  spelling_down,
+  steps_up_less,
+  steps_more_less,
+  steps_down_less,
 }
 use Prim.Native.Nat.{◌+◌, ◌-◌, ◌/◌, ◌%◌, ◌≤◌}
 use mathlib.Core.Path.{◌≡◌, refl, ◌∙◌, ap}
@@ -28,17 +28,17 @@ invariant-loop table depth lengths symbol raise tokens₀ at stack₀ h₀ left�
     (length tokens ≡ length tokens₀) × Spelling table depth symbol raise tokens₀ at stack h left tokens end
 
 abbrev decreases-loop : tie.decreases-loop
-decreases-loop table depth lengths symbol raise tokens₀ at stack₀ h₀ left₀ end₀ tokens stack h left end = stepsLeft table depth stack h left
+decreases-loop table depth lengths symbol raise tokens₀ at stack₀ h₀ left₀ end₀ tokens stack h left end = steps_left table depth stack h left
 
 loop-holds : tie.Need-loop-init invariant-loop decreases-loop
 loop-holds c =
-    (refl, spelling-begins _ _ _ _ _ _ _ refl c.requires.low (omega (arith, c.requires.high)) c.requires.deep (omega (arith, c.requires.room)))
+    (refl, spelling_begins _ _ _ _ _ _ _ refl c.requires.low (omega (arith, c.requires.high)) c.requires.deep (omega (arith, c.requires.room)))
 
 same_length : tie.Need-same-length invariant-loop decreases-loop
 same_length c = c.before.before.loop.invariant.0
 
 returns : tie.Need-returns invariant-loop decreases-loop
-returns c = spelling-ends c.before.before.loop.invariant.1 c.before.if1.true c.if2.true
+returns c = spelling_ends c.before.before.loop.invariant.1 c.before.if1.true c.if2.true
 
 sub-h : tie.Need-overflow-sub-h invariant-loop decreases-loop
 sub-h c = omega (arith, c.if2.false)
@@ -54,12 +54,12 @@ array-read-left c =
     omega (arith, c.if2.false, c.before.before.loop.invariant.1.low, start.requires.spells.few)
 
 loop-less : tie.Need-loop-smaller invariant-loop decreases-loop
-loop-less c = steps-up-less _ _ _ _ _ _ (omega (arith, c.if2.false)) c.before.if1.true
+loop-less c = steps_up_less _ _ _ _ _ _ (omega (arith, c.if2.false)) c.before.if1.true
 
 loop-again : tie.Need-loop-preserved invariant-loop decreases-loop
 loop-again c = (
   c.before.before.loop.invariant.0,
-  spelling-up c.before.before.loop.invariant.1 _ (omega (arith, c.if2.false))
+  spelling_up c.before.before.loop.invariant.1 _ (omega (arith, c.if2.false))
       c.before.if1.true,
 )
 
@@ -76,7 +76,7 @@ mul-tokens c =
     let start = c.before.before.before in
     omega (
       arith,
-      spelling-room c.before.before.loop.invariant.1 (omega (arith, c.before.if1.false)) c.if3.true,
+      spelling_room c.before.before.loop.invariant.1 (omega (arith, c.before.if1.false)) c.if3.true,
       start.requires.room,
       start.well-formed,
     )
@@ -86,7 +86,7 @@ slice-write-tokens c =
     let start = c.before.before.before in
     omega (
       arith,
-      spelling-room c.before.before.loop.invariant.1 (omega (arith, c.before.if1.false)) c.if3.true,
+      spelling_room c.before.before.loop.invariant.1 (omega (arith, c.before.if1.false)) c.if3.true,
       start.requires.room,
       c.before.before.loop.invariant.0,
     )
@@ -96,13 +96,13 @@ add-end c =
     let start = c.before.before.before in
     omega (
       arith,
-      spelling-room c.before.before.loop.invariant.1 (omega (arith, c.before.if1.false)) c.if3.true,
+      spelling_room c.before.before.loop.invariant.1 (omega (arith, c.before.if1.false)) c.if3.true,
       start.requires.room,
       start.well-formed,
     )
 
 loop-less-2 : tie.Need-loop-smaller-2 invariant-loop decreases-loop
-loop-less-2 c = steps-more-less _ _ _ _ _ (omega (arith, c.before.if1.false))
+loop-less-2 c = steps_more_less _ _ _ _ _ (omega (arith, c.before.if1.false))
 
 loop-again-2 : tie.Need-loop-preserved-2 invariant-loop decreases-loop
 loop-again-2 c =
@@ -110,7 +110,7 @@ loop-again-2 c =
       length-set c.before.before.loop.tokens c.before.before.loop.end
           (c.before.before.loop.left % 256 + start.args.raise)
           ∙ c.before.before.loop.invariant.0,
-      spelling-token c.before.before.loop.invariant.1 (omega (arith, c.before.if1.false)) c.if3.true start.requires.room,
+      spelling_token c.before.before.loop.invariant.1 (omega (arith, c.before.if1.false)) c.if3.true start.requires.room,
     )
 
 mul-if4 : tie.Need-overflow-mul-if4 invariant-loop decreases-loop
@@ -122,7 +122,7 @@ shared-slice-read-if4 c =
     let loop = c.before.before.before.loop in
     omega (
       arith,
-      (spelling-high loop.invariant.1 (omega (arith, c.before.before.if1.false)) (omega (arith, c.before.if3.false))).1,
+      (spelling_high loop.invariant.1 (omega (arith, c.before.before.if1.false)) (omega (arith, c.before.if3.false))).1,
       start.requires.measured.size,
     )
 
@@ -139,7 +139,7 @@ array-write-stack c =
     let if1 = c.before.before.before.if1 in
     omega (
       arith,
-      (spelling-high loop.invariant.1 (omega (arith, if1.false)) (omega (arith, c.before.before.if3.false))).0,
+      (spelling_high loop.invariant.1 (omega (arith, if1.false)) (omega (arith, c.before.before.if3.false))).0,
       start.requires.spells.few,
     )
 
@@ -158,7 +158,7 @@ shared-slice-read-left c =
     let loop = c.before.before.before.before.before.loop in
     let if1 = c.before.before.before.before.if1 in
     let if3 = c.before.before.before.if3 in
-    omega (arith, (spelling-high loop.invariant.1 (omega (arith, if1.false)) (omega (arith, if3.false))).1, start.requires.spells.size)
+    omega (arith, (spelling_high loop.invariant.1 (omega (arith, if1.false)) (omega (arith, if3.false))).1, start.requires.spells.size)
 
 loop-less-3 : tie.Need-loop-smaller-3 invariant-loop decreases-loop
 loop-less-3 c =
@@ -166,8 +166,8 @@ loop-less-3 c =
     let loop = c.before.before.before.before.before.loop in
     let if1 = c.before.before.before.before.if1 in
     let if3 = c.before.before.before.if3 in
-    let high = spelling-high loop.invariant.1 (omega (arith, if1.false)) (omega (arith, if3.false)) in
-    steps-down-less _ _ _ _ _ (omega (arith, if1.false)) high.0 (omega (
+    let high = spelling_high loop.invariant.1 (omega (arith, if1.false)) (omega (arith, if3.false)) in
+    steps_down_less _ _ _ _ _ (omega (arith, if1.false)) high.0 (omega (
       arith,
       high.0,
       start.requires.spells.few,
@@ -180,12 +180,12 @@ loop-again-3 c =
     let loop = c.before.before.before.before.before.loop in
     let if1 = c.before.before.before.before.if1 in
     let if3 = c.before.before.before.if3 in
-    (loop.invariant.0, spelling-down loop.invariant.1 (omega (arith, if1.false)) start.requires.spells.few (omega (arith, if3.false)))
+    (loop.invariant.0, spelling_down loop.invariant.1 (omega (arith, if1.false)) start.requires.spells.few (omega (arith, if3.false)))
 
 loop-less-4 : tie.Need-loop-smaller-4 invariant-loop decreases-loop
 loop-less-4 c =
     let if1 = c.before.before.before.if1 in
-    steps-more-less _ _ _ _ _ (omega (arith, if1.false))
+    steps_more_less _ _ _ _ _ (omega (arith, if1.false))
 
 loop-again-4 : tie.Need-loop-preserved-4 invariant-loop decreases-loop
 loop-again-4 c =
@@ -193,8 +193,8 @@ loop-again-4 c =
     let loop = c.before.before.before.before.loop in
     let if1 = c.before.before.before.if1 in (
       loop.invariant.0,
-      spelling-pass loop.invariant.1 (omega (arith, if1.false)) start.requires.measured (omega (arith, c.before.before.if3.false))
-          (spelling-high loop.invariant.1 (omega (arith, if1.false)) (omega (arith, c.before.before.if3.false))).1 (omega (
+      spelling_pass loop.invariant.1 (omega (arith, if1.false)) start.requires.measured (omega (arith, c.before.before.if3.false))
+          (spelling_high loop.invariant.1 (omega (arith, if1.false)) (omega (arith, c.before.before.if3.false))).1 (omega (
             arith,
             c.if4.false,
           )),

@@ -5,25 +5,25 @@ use borrow.Author.Rules.{rules}
 use native.Mathlib.Omega.{arith}
 use mathlib.Core.Path.{sym, ◌∙◌, subst}
 use lib.ListN.{length}
-use Rattle.grammar.specs.theory.Tables.{sizedOf}
-use Rattle.correction.specs.Deleting.{Deleted, deleted-none, deleted-more}
-use Rattle.correction.specs.Correcting.{seek-can, record-can, delete-can, pop-can, corrected-full, corrected-on}
+use Rattle.grammar.specs.Theory.Tables.{sized_of}
+use Rattle.correction.specs.Deleting.{Deleted, deleted_none, deleted_more}
+use Rattle.correction.specs.Correcting.{seek_can, record_can, delete_can, pop_can, corrected_full, corrected_on}
 use Rattle.table_correction.proofs.correct.Statement.{statement}
 use Rattle.table_correction.proofs.correct.Tie as tie
 
 abbrev invariant-loop : tie.invariant-loop
-invariant-loop words log table prices stack edits₀ q₀ edits q = Deleted (sizedOf words) log stack edits₀ q₀ q edits
+invariant-loop words log table prices stack edits₀ q₀ edits q = Deleted (sized_of words) log stack edits₀ q₀ q edits
 
 abbrev decreases-loop : tie.decreases-loop
 decreases-loop words log table prices stack edits₀ q₀ edits q = length log + 1 - q.place
 
 loop-holds : tie.Need-loop-init invariant-loop decreases-loop
-loop-holds c = deleted-none _ _ _ _ _ c.before.before.before.before.before.before.requires.0.place
+loop-holds c = deleted_none _ _ _ _ _ c.before.before.before.before.before.before.requires.0.place
 
 seek-requires : tie.Need-seek-requires invariant-loop decreases-loop
 seek-requires c κs =
     let start = c.before.before.before.before.before.before.before in
-    (seek-can start.requires.0 c.loop.invariant, start.requires.1)
+    (seek_can start.requires.0 c.loop.invariant, start.requires.1)
 
 enum-known-r : tie.Need-enum-known-r invariant-loop decreases-loop
 enum-known-r c = c.match.keys1
@@ -38,13 +38,13 @@ write-record-requires : tie.Need-write-record-requires invariant-loop decreases-
 write-record-requires c κs =
     let head = c.before.before.before.before.before in
     let start = head.before.before.before.before.before.before.before in
-    record-can start.requires.0 head.loop.invariant
+    record_can start.requires.0 head.loop.invariant
 
 deleted-requires : tie.Need-deleted-requires invariant-loop decreases-loop
 deleted-requires c κs =
     let head = c.before.before.before.before.before.before.before.before in
     let start = head.before.before.before.before.before.before.before in
-    delete-can start.requires.0 head.loop.invariant
+    delete_can start.requires.0 head.loop.invariant
 
 loop-less : tie.Need-loop-smaller invariant-loop decreases-loop
 loop-less c =
@@ -61,7 +61,7 @@ loop-again c =
     let at-seek = at-enum-told.before.before in
     let head = at-seek.before in
     let start = head.before.before.before.before.before.before.before in
-    deleted-more start.requires.0 head.loop.invariant at-seek.seek.ensures at-enum-told.enum_told.given.1
+    deleted_more start.requires.0 head.loop.invariant at-seek.seek.ensures at-enum-told.enum_told.given.1
     c.deleted.ensures at-token-at.token-at.ensures at-write-record.write-record.ensures
 
 pop-requires : tie.Need-pop-requires invariant-loop decreases-loop
@@ -70,7 +70,7 @@ pop-requires c κs =
     let at-seek = at-r.before.before in
     let head = at-seek.before in
     let start = head.before.before.before.before.before.before.before in
-    (pop-can start.requires.0 head.loop.invariant _ _ at-seek.seek.ensures at-r.r.given.1, start.requires.1)
+    (pop_can start.requires.0 head.loop.invariant _ _ at-seek.seek.ensures at-r.r.given.1, start.requires.1)
 
 mul-if1 : tie.Need-overflow-mul-if1 invariant-loop decreases-loop
 mul-if1 c =
@@ -81,7 +81,7 @@ mul-if1 c =
     let start = head.before.before.before.before.before.before.before in
     omega (
       arith,
-      (pop-can start.requires.0 head.loop.invariant _ _ at-seek.seek.ensures at-r.r.given.1).count,
+      (pop_can start.requires.0 head.loop.invariant _ _ at-seek.seek.ensures at-r.r.given.1).count,
       at-pop.pop.ensures.records,
       at-pop.pop.ensures.few,
     )
@@ -98,7 +98,7 @@ returns c =
     let at-seek = at-r.before.before in
     let head = at-seek.before in
     let start = head.before.before.before.before.before.before.before in
-    corrected-full start.requires.0 head.loop.invariant _ _ at-seek.seek.ensures at-r.r.given.1 at-pop.pop.ensures c.if1.true
+    corrected_full start.requires.0 head.loop.invariant _ _ at-seek.seek.ensures at-r.r.given.1 at-pop.pop.ensures c.if1.true
 
 same-length-2 : tie.Need-same-length-2 invariant-loop decreases-loop
 same-length-2 c =
@@ -112,7 +112,7 @@ returns-2 c =
     let at-seek = at-r.before.before in
     let head = at-seek.before in
     let start = head.before.before.before.before.before.before.before in
-    corrected-on start.requires.0 head.loop.invariant _ _ at-seek.seek.ensures at-r.r.given.1 at-pop.pop.ensures c.if1.false
+    corrected_on start.requires.0 head.loop.invariant _ _ at-seek.seek.ensures at-r.r.given.1 at-pop.pop.ensures c.if1.false
 
 pub correct-spec : {M : Type 1} → statement M
 correct-spec =

@@ -6,18 +6,18 @@ use native.Mathlib.Omega.{arith}
 use mathlib.Core.Bool.{false}
 use mathlib.Core.Path.{◌≡◌, refl, sym, ◌∙◌}
 use mathlib.Core.Logic.{⊎_elim}
-use Rattle.table_correction.specs.Entries.{dropsTo, drops-under, drops-more, drops-none, drops-nothing}
+use Rattle.table_correction.specs.Entries.{drops_to, drops_under, drops_more, drops_none, drops_nothing}
 use Rattle.table_correction.proofs.has_drop.Statement.{statement}
 use Rattle.table_correction.proofs.has_drop.Tie as tie
 
 abbrev invariant-loop : tie.invariant-loop
-invariant-loop table nonterminal t₀ t = (t ≤ 64) × (dropsTo table nonterminal t ≡ false)
+invariant-loop table nonterminal t₀ t = (t ≤ 64) × (drops_to table nonterminal t ≡ false)
 
 abbrev decreases-loop : tie.decreases-loop
 decreases-loop table nonterminal t₀ t = 64 - t
 
 loop-holds : tie.Need-loop-init invariant-loop decreases-loop
-loop-holds c = (omega arith, drops-nothing _ _)
+loop-holds c = (omega arith, drops_nothing _ _)
 
 entry-requires : tie.Need-entry-requires invariant-loop decreases-loop
 entry-requires c κs = search rules
@@ -32,7 +32,7 @@ returns : tie.Need-returns invariant-loop decreases-loop
 returns c =
     let at_entry_lem = c.before.before in
     let at-loop-test = at_entry_lem.before in
-    sym (drops-under _ _ _ 64 at-loop-test.loop-test.true (sym at_entry_lem.entry.ensures ∙ c.enum-told2.given.1))
+    sym (drops_under _ _ _ 64 at-loop-test.loop-test.true (sym at_entry_lem.entry.ensures ∙ c.enum-told2.given.1))
 
 enum-told-3 : tie.Need-enum-told-3 invariant-loop decreases-loop
 enum-told-3 c = search rules
@@ -49,12 +49,12 @@ loop-again c =
     let at-loop = at-loop-test.before in (
       omega (arith, at-loop-test.loop-test.true),
       ⊎_elim
-          (λ w. drops-more _ _ _ at-loop.loop.invariant.1 c.before.entry.ensures w.1.given.1 refl)
-          (λ w. drops-more _ _ _ at-loop.loop.invariant.1 c.before.entry.ensures w.1.given.1 refl) c.match.branch,
+          (λ w. drops_more _ _ _ at-loop.loop.invariant.1 c.before.entry.ensures w.1.given.1 refl)
+          (λ w. drops_more _ _ _ at-loop.loop.invariant.1 c.before.entry.ensures w.1.given.1 refl) c.match.branch,
     )
 
 returns-2 : tie.Need-returns-2 invariant-loop decreases-loop
-returns-2 c = drops-none _ _ _ c.before.loop.invariant.0 c.loop-test.false c.before.loop.invariant.1
+returns-2 c = drops_none _ _ _ c.before.loop.invariant.0 c.loop-test.false c.before.loop.invariant.1
 
 pub has-drop-spec : {M : Type 1} → statement M
 has-drop-spec =

@@ -1,10 +1,10 @@
 -- `table_engine::begin` meets its contract: the table is filled from the sets of the check, and is what the run goes by.
 use native.Mathlib.Omega.{arith}
 use native.Mathlib.Omega.{arith}
-use Rattle.base.specs.Blank.{blank-made}
-use Rattle.grammar.specs.theory.Good.{accepted}
-use Rattle.verdict.specs.Sets.{sets-asked, sets-firsts}
-use Rattle.table_engine.specs.Engine.{guides-of}
+use Rattle.base.specs.Blank.{blank_made}
+use Rattle.grammar.specs.Theory.Good.{accepted}
+use Rattle.verdict.specs.Sets.{sets_asked, sets_firsts}
+use Rattle.table_engine.specs.Engine.{guides_of}
 use borrow.Author.Rules.{rules}
 use Rattle.table_engine.proofs.begin.Statement.{statement}
 use Rattle.table_engine.proofs.begin.Tie as tie
@@ -28,8 +28,8 @@ fill-requires : tie.Need-fill-requires
 fill-requires c κs =
     let start = c.before.before.before.before.before.before.before.before.before.before in
     let weights = start.requires.weights in (
-      sets-asked weights.ready weights.exact,
-      (sets-firsts weights.ready weights.exact, ((accepted start.requires.verdict).reachable, blank-made 4096)),
+      sets_asked weights.ready weights.exact,
+      (sets_firsts weights.ready weights.exact, ((accepted start.requires.verdict).reachable, blank_made 4096)),
     )
 
 slice-aggregate-run : tie.Need-slice-aggregate-run
@@ -42,7 +42,7 @@ run-requires : tie.Need-run-requires
 run-requires c κs =
     let at_fill_lem = c.before.before.before.before.before.before in
     let start = at_fill_lem.before.before.before.before.before.before.before.before.before.before.before in
-    record { guides = guides-of start.requires at_fill_lem.fill.ensures; cells = omega arith }
+    record { guides = guides_of start.requires at_fill_lem.fill.ensures; cells = omega arith }
 
 same_length : tie.Need-same-length
 same_length c = search rules

@@ -1,6 +1,6 @@
 -- `table_engine::choose` meets its contract: each case of top and entry is one choice.
 use native.Mathlib.Omega.{arith}
-use Rattle.table_engine.specs.Picks.{below-can, top-low, pick-match, pick_other, pick-expand, pick-drop, pick-unfit, pick-error}
+use Rattle.table_engine.specs.Picks.{below_can, top_low, pick_match, pick_other, pick_expand, pick_drop, pick_unfit, pick_error}
 use native.Mathlib.Omega.{arith}
 use borrow.Author.Rules.{rules}
 use Rattle.table_engine.proofs.choose.Statement.{statement}
@@ -24,7 +24,7 @@ shared-slice-read-top c =
 returns : tie.Need-returns
 returns c =
     let start = c.before.before.before.before.before in
-    pick-match start.requires c.if1.true
+    pick_match start.requires c.if1.true
 
 returns-2 : tie.Need-returns-2
 returns-2 c =
@@ -34,7 +34,7 @@ returns-2 c =
 entry-requires : tie.Need-entry-requires
 entry-requires c κs =
     let start = c.before.before.before.before.before.before in
-    (c.if2.false, top-low start.requires, start.requires.walk.token, start.requires.walk.filled.size)
+    (c.if2.false, top_low start.requires, start.requires.walk.token, start.requires.walk.filled.size)
 
 enum-known-entry : tie.Need-enum-known-entry
 enum-known-entry c = search rules
@@ -50,7 +50,7 @@ sub-fits c =
 fits-requires : tie.Need-fits-requires
 fits-requires c κs =
     let start = c.before.before.before.before.before.before.before.before.before in
-    below-can start.requires
+    below_can start.requires
 
 enum-told-2 : tie.Need-enum-told-2
 enum-told-2 c = search rules
@@ -60,7 +60,7 @@ returns-3 c =
     let at_entry_lem = c.before.before.before in
     let at-if2 = at_entry_lem.before in
     let start = at-if2.before.before.before.before.before.before in
-    pick-expand start.requires at-if2.if2.false at_entry_lem.entry.ensures c.before.entry2.given.1
+    pick_expand start.requires at-if2.if2.false at_entry_lem.entry.ensures c.before.entry2.given.1
 
 returns-4 : tie.Need-returns-4
 returns-4 c =
@@ -68,7 +68,7 @@ returns-4 c =
     let at_entry_lem = at-enum-told.before.before in
     let at-if2 = at_entry_lem.before in
     let start = at-if2.before.before.before.before.before.before in
-    pick-drop start.requires at-if2.if2.false at_entry_lem.entry.ensures at-enum-told.enum_told.given.1 c.before.fits2.ensures
+    pick_drop start.requires at-if2.if2.false at_entry_lem.entry.ensures at-enum-told.enum_told.given.1 c.before.fits2.ensures
     c.if3.true
 
 returns-5 : tie.Need-returns-5
@@ -77,14 +77,14 @@ returns-5 c =
     let at_entry_lem = at-enum-told.before.before in
     let at-if2 = at_entry_lem.before in
     let start = at-if2.before.before.before.before.before.before in
-    pick-unfit start.requires at-if2.if2.false at_entry_lem.entry.ensures at-enum-told.enum_told.given.1 c.before.fits2.ensures c.if3.false
+    pick_unfit start.requires at-if2.if2.false at_entry_lem.entry.ensures at-enum-told.enum_told.given.1 c.before.fits2.ensures c.if3.false
 
 returns-6 : tie.Need-returns-6
 returns-6 c =
     let at_entry_lem = c.before.before in
     let at-if2 = at_entry_lem.before in
     let start = at-if2.before.before.before.before.before.before in
-    pick-error start.requires at-if2.if2.false at_entry_lem.entry.ensures c.enum-told2.given.1
+    pick_error start.requires at-if2.if2.false at_entry_lem.entry.ensures c.enum-told2.given.1
 
 pub choose_spec : {M : Type 1} → statement M
 choose_spec =

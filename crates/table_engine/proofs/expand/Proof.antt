@@ -1,7 +1,7 @@
 -- `table_engine::expand` meets its contract: 11, then 12, or the right side is pushed and the rule listed.
 use native.Mathlib.Omega.{arith}
 use native.Mathlib.Omega.{arith}
-use Rattle.table_engine.specs.Growing.{rule-counted, grow-full, grow-no-room, grow-on}
+use Rattle.table_engine.specs.Growing.{rule_counted, grow_full, grow_no_room, grow_on}
 use borrow.Author.Rules.{rules}
 use Rattle.table_engine.proofs.expand.Statement.{statement}
 use Rattle.table_engine.proofs.expand.Tie as tie
@@ -14,7 +14,7 @@ sub_at c =
 size-of-requires : tie.Need-size-of-requires
 size-of-requires c κs =
     let start = c.before.before.before.before.before in
-    (start.requires.ready, rule-counted start.requires)
+    (start.requires.ready, rule_counted start.requires)
 
 add-if1 : tie.Need-overflow-add-if1
 add-if1 c =
@@ -24,18 +24,18 @@ add-if1 c =
 returns : tie.Need-returns
 returns c =
     let start = c.before.before.before.before.before.before.before in
-    grow-full start.requires c.before.type_size.ensures _ c.if1.true
+    grow_full start.requires c.before.type_size.ensures _ c.if1.true
 
 returns-2 : tie.Need-returns-2
 returns-2 c =
     let at-size-of = c.before.before in
     let start = at-size-of.before.before.before.before.before.before in
-    grow-no-room start.requires at-size-of.type_size.ensures _ c.before.if1.false c.if2.true
+    grow_no_room start.requires at-size-of.type_size.ensures _ c.before.if1.false c.if2.true
 
 cast-rules : tie.Need-overflow-cast-rules
 cast-rules c =
     let start = c.before.before.before.before.before.before.before.before in
-    omega (arith, rule-counted start.requires, start.requires.few)
+    omega (arith, rule_counted start.requires, start.requires.few)
 
 mul-rules : tie.Need-overflow-mul-rules
 mul-rules c = search rules
@@ -46,7 +46,7 @@ slice-write-rules c = search rules
 push-requires : tie.Need-push-requires
 push-requires c κs =
     let start = c.before.before.before.before.before.before.before.before.before in
-    record { ready = start.requires.ready; counted = rule-counted start.requires; cells = omega (arith, start.requires.height, start.requires.cells) }
+    record { ready = start.requires.ready; counted = rule_counted start.requires; cells = omega (arith, start.requires.height, start.requires.cells) }
 
 expanded-requires : tie.Need-expanded-requires
 expanded-requires c κs =
@@ -67,7 +67,7 @@ returns-3 c =
     let at-if1 = at-if2.before in
     let at-size-of = at-if1.before in
     let start = at-size-of.before.before.before.before.before.before in
-    grow-on start.requires at-size-of.type_size.ensures _ _ at-if1.if1.false at-if2.if2.false at_push.push.ensures c.expanded.ensures
+    grow_on start.requires at-size-of.type_size.ensures _ _ at-if1.if1.false at-if2.if2.false at_push.push.ensures c.expanded.ensures
 
 pub expand-spec : {M : Type 1} → statement M
 expand-spec =

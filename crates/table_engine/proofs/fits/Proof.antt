@@ -2,19 +2,19 @@
 use borrow.Author.Rules.{rules}
 use native.Mathlib.Omega.{arith}
 use native.Mathlib.Omega.{arith}
-use Rattle.grammar.specs.theory.Tables.{sizedOf}
-use Rattle.table_engine.specs.Walks.{Walking, walking-top, symbol_low, walk-terminal, walk-rule, walk-drop, walk-error, walk-over}
+use Rattle.grammar.specs.Theory.Tables.{sized_of}
+use Rattle.table_engine.specs.Walks.{Walking, walking_top, symbol_low, walk_terminal, walk_rule, walk_drop, walk_error, walk_over}
 use Rattle.table_engine.proofs.fits.Statement.{statement}
 use Rattle.table_engine.proofs.fits.Tie as tie
 
 abbrev invariant-loop : tie.invariant-loop
-invariant-loop words table stack height t h₀ h = Walking (sizedOf words) stack height t h
+invariant-loop words table stack height t h₀ h = Walking (sized_of words) stack height t h
 
 abbrev decreases-loop : tie.decreases-loop
 decreases-loop words table stack height t h₀ h = h
 
 loop-holds : tie.Need-loop-init invariant-loop decreases-loop
-loop-holds c = walking-top _ _ _ _
+loop-holds c = walking_top _ _ _ _
 
 sub-symbol : tie.Need-overflow-sub-symbol invariant-loop decreases-loop
 sub-symbol c = omega (arith, c.loop-test.true)
@@ -35,7 +35,7 @@ returns c =
     let at-loop-test = c.before.before in
     let at-loop = at-loop-test.before in
     let start = at-loop.before.before.before.before in
-    walk-terminal start.requires at-loop-test.loop-test.true at-loop.loop.invariant c.if1.true
+    walk_terminal start.requires at-loop-test.loop-test.true at-loop.loop.invariant c.if1.true
 
 entry-requires : tie.Need-entry-requires invariant-loop decreases-loop
 entry-requires c κs =
@@ -58,7 +58,7 @@ returns-2 c =
     let at-loop-test = at-if1.before.before in
     let at-loop = at-loop-test.before in
     let start = at-loop.before.before.before.before in
-    walk-rule start.requires at-loop-test.loop-test.true at-loop.loop.invariant at-if1.if1.false at_entry_lem.entry.ensures c.enum_told.given.1
+    walk_rule start.requires at-loop-test.loop-test.true at-loop.loop.invariant at-if1.if1.false at_entry_lem.entry.ensures c.enum_told.given.1
 
 enum-told-2 : tie.Need-enum-told-2 invariant-loop decreases-loop
 enum-told-2 c = search rules
@@ -76,7 +76,7 @@ loop-again c =
     let at-loop-test = at-if1.before.before in
     let at-loop = at-loop-test.before in
     let start = at-loop.before.before.before.before in
-    walk-drop start.requires at-loop-test.loop-test.true at-loop.loop.invariant at-if1.if1.false at_entry_lem.entry.ensures c.enum-told2.given.1
+    walk_drop start.requires at-loop-test.loop-test.true at-loop.loop.invariant at-if1.if1.false at_entry_lem.entry.ensures c.enum-told2.given.1
 
 enum-told-3 : tie.Need-enum-told-3 invariant-loop decreases-loop
 enum-told-3 c = search rules
@@ -88,12 +88,12 @@ returns-3 c =
     let at-loop-test = at-if1.before.before in
     let at-loop = at-loop-test.before in
     let start = at-loop.before.before.before.before in
-    walk-error start.requires at-loop-test.loop-test.true at-loop.loop.invariant at-if1.if1.false at_entry_lem.entry.ensures c.enum-told3.given.1
+    walk_error start.requires at-loop-test.loop-test.true at-loop.loop.invariant at-if1.if1.false at_entry_lem.entry.ensures c.enum-told3.given.1
 
 returns-4 : tie.Need-returns-4 invariant-loop decreases-loop
 returns-4 c =
     let start = c.before.before.before.before.before in
-    walk-over start.requires c.loop-test.false c.before.loop.invariant
+    walk_over start.requires c.loop-test.false c.before.loop.invariant
 
 pub fits-spec : {M : Type 1} → statement M
 fits-spec =

@@ -1,7 +1,7 @@
 -- `table_engine::parse_table` meets its contract, the parser's own.
 use mathlib.Core.Path.{refl}
-use Rattle.parser.specs.Asking.{asksBy, nothingAsked}
-use Rattle.parser.specs.Parses.{settled-room, parses-left, parsed-plain}
+use Rattle.parser.specs.Asking.{asks_by, nothing_asked}
+use Rattle.parser.specs.Parses.{settled-room, parses-left, parsed_plain}
 use borrow.Author.Rules.{rules}
 use Rattle.table_engine.proofs.parse_table.Statement.{statement}
 use Rattle.table_engine.proofs.parse_table.Tie as tie
@@ -13,7 +13,7 @@ leave-requires : tie.Need-leave-requires
 leave-requires c κs =
     let at-settle = c.before.before.before.before.before.before in
     let start = at-settle.before.before.before.before.before.before.before in
-    settled-room (asksBy nothingAsked) _ _ start.args.edits.now start.args.rules.now _ _ at-settle.settle.auto.1.1.0
+    settled-room (asks_by nothing_asked) _ _ start.args.edits.now start.args.rules.now _ _ at-settle.settle.auto.1.1.0
     at-settle.settle.auto.1.1.1.0 _ at-settle.settle.ensures
 
 same_length : tie.Need-same-length
@@ -27,7 +27,7 @@ returns c =
     let at-leave = c.before.before.before.before in
     let at-settle = at-leave.before.before.before.before.before.before.before in
     let start = at-settle.before.before.before.before.before.before.before in
-    parsed-plain {asking = nothingAsked} refl refl (parses-left (asksBy nothingAsked) _ _ start.args.edits.now
+    parsed_plain {asking = nothing_asked} refl refl (parses-left (asks_by nothing_asked) _ _ start.args.edits.now
     start.args.rules.now _ _ at-settle.settle.auto.1.1.0 at-settle.settle.auto.1.1.1.0 _ _ _
     at-settle.settle.ensures at-leave.leave.ensures)
 

@@ -5,14 +5,14 @@ use Prim.Native.Nat.{◌≤◌, ◌-◌}
 use mathlib.Core.Path.{ap, ◌∙◌}
 use lib.ListN.{length, get_or}
 use native.Mathlib.Omega.{arith}
-use Rattle.grammar.specs.Words.{rightSide}
-use Rattle.moves.specs.Push.{Pushing, pushing-none, pushing-more}
-use Rattle.table_engine.specs.Laying.{fromEnd, laid-whole}
+use Rattle.grammar.specs.Words.{right_side}
+use Rattle.moves.specs.Push.{Pushing, pushing_none, pushing_more}
+use Rattle.table_engine.specs.Laying.{from_end, laid_whole}
 use Rattle.table_engine.proofs.push.Statement.{statement}
 use Rattle.table_engine.proofs.push.Tie as tie
 
 abbrev invariant-loop : tie.invariant-loop
-invariant-loop words places rule stack₀ at size i₀ stack i = (i ≤ size) × Pushing (fromEnd (rightSide words rule)) stack₀ at stack i
+invariant-loop words places rule stack₀ at size i₀ stack i = (i ≤ size) × Pushing (from_end (right_side words rule)) stack₀ at stack i
 
 abbrev decreases-loop : tie.decreases-loop
 decreases-loop words places rule stack₀ at size i₀ stack i = size - i
@@ -23,7 +23,7 @@ size-of-requires c κs =
     (start.requires.ready, start.requires.counted)
 
 loop-holds : tie.Need-loop-init invariant-loop decreases-loop
-loop-holds c = (omega arith, pushing-none _ _ _)
+loop-holds c = (omega arith, pushing_none _ _ _)
 
 sub-symbol-at : tie.Need-overflow-sub-symbol-at invariant-loop decreases-loop
 sub-symbol-at c = omega (arith, c.loop-test.true)
@@ -68,9 +68,9 @@ loop-again c =
     let at-size-of = at-loop.before in
     let start = at-size-of.before.before.before.before in (
       omega (arith, c.before.loop-test.true),
-      pushing-more _ _ _ _ _ _
-          (c.symbol-at.ensures.is
-          ∙ ap (λ k. get_or (rightSide start.args.words.now start.args.rule) k 0)
+      pushing_more _ _ _ _ _ _
+          (c.symbol_at.ensures.is
+          ∙ ap (λ k. get_or (right_side start.args.words.now start.args.rule) k 0)
           (omega (arith, c.before.loop-test.true, at-size-of.type_size.ensures.is)))
           (omega (arith, c.before.loop-test.true, at-size-of.type_size.ensures.small, start.requires.cells)) at-loop.loop.invariant.1,
     )
@@ -81,7 +81,7 @@ same_length c = c.before.loop.invariant.1.size
 returns : tie.Need-returns invariant-loop decreases-loop
 returns c =
     let at-size-of = c.before.before in
-    laid-whole at-size-of.type_size.ensures c.loop-test.false c.before.loop.invariant.1
+    laid_whole at-size-of.type_size.ensures c.loop-test.false c.before.loop.invariant.1
 
 pub push_spec : {M : Type 1} → statement M
 push_spec =

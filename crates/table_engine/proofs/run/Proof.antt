@@ -5,15 +5,15 @@ use native.Mathlib.Omega.{arith}
 use Prim.Native.Nat.{◌-◌}
 use mathlib.Core.Path.{◌∙◌}
 use lib.ListN.{length-set}
-use Rattle.grammar.specs.theory.Tables.{sizedOf}
-use Rattle.parser.specs.Runs.{Runs, runs-begin, runs_on, runs-refused, runs-end}
-use Rattle.table_engine.specs.Engine.{turn-can}
+use Rattle.grammar.specs.Theory.Tables.{sized_of}
+use Rattle.parser.specs.Runs.{Runs, runs_begin, runs_on, runs_refused, runs_end}
+use Rattle.table_engine.specs.Engine.{turn_can}
 use Rattle.table_engine.proofs.run.Statement.{statement}
 use Rattle.table_engine.proofs.run.Tie as tie
 
 abbrev invariant-loop : tie.invariant-loop
 invariant-loop words log places table prices stack₀ edits₀ rules₀ p₀ stack edits rules p =
-    Runs (sizedOf words) log stack₀ edits₀ rules₀ stack edits rules p
+    Runs (sized_of words) log stack₀ edits₀ rules₀ stack edits rules p
 
 abbrev decreases-loop : tie.decreases-loop
 decreases-loop words log places table prices stack₀ edits₀ rules₀ p₀ stack edits rules p = 2101250 - p.moves
@@ -34,14 +34,14 @@ new-requires c κs = search rules
 loop-holds : tie.Need-loop-init invariant-loop decreases-loop
 loop-holds c =
     let start = c.before.before.before.before.before.before.before.before.before in
-    runs-begin start.args.stack.now _ _ start.requires.guides.setting start.requires.cells c.new.ensures
+    runs_begin start.args.stack.now _ _ start.requires.guides.setting start.requires.cells c.new.ensures
 
 turn-requires : tie.Need-turn-requires invariant-loop decreases-loop
 turn-requires c κs =
     let at-if1 = c.before.before.before in
     let at-loop = at-if1.before.before in
     let start = at-loop.before.before.before.before.before.before.before.before.before.before in
-    turn-can start.requires.guides at-loop.loop.invariant at-if1.if1.true
+    turn_can start.requires.guides at-loop.loop.invariant at-if1.if1.true
 
 enum-known-turned : tie.Need-enum-known-turned invariant-loop decreases-loop
 enum-known-turned c = c.match.keys1
@@ -74,20 +74,20 @@ same-length-2 : tie.Need-same-length-2 invariant-loop decreases-loop
 same-length-2 c =
     let at_turn = c.before.before.before.before.before.before.before.before.before in
     let at-loop = at_turn.before.before.before.before.before.before in
-    at_turn.turn.auto.1.1.1.1.1.1.0 ∙ at-loop.loop.invariant.reached.edit-room
+    at_turn.turn.auto.1.1.1.1.1.1.0 ∙ at-loop.loop.invariant.reached.edit_room_lem
 
 same-length-3 : tie.Need-same-length-3 invariant-loop decreases-loop
 same-length-3 c =
     let at_turn = c.before.before.before.before.before.before.before.before.before in
     let at-loop = at_turn.before.before.before.before.before.before in
-    at_turn.turn.auto.1.1.1.1.1.1.1.0 ∙ at-loop.loop.invariant.reached.rule-room
+    at_turn.turn.auto.1.1.1.1.1.1.1.0 ∙ at-loop.loop.invariant.reached.rule_room_lem
 
 returns : tie.Need-returns invariant-loop decreases-loop
 returns c =
     let at_turn = c.before.before.before.before.before.before.before.before.before in
     let at-loop = at_turn.before.before.before.before.before.before in
     let start = at-loop.before.before.before.before.before.before.before.before.before.before in
-    runs-refused start.requires.guides.setting at-loop.loop.invariant _ _ _ at_turn.turn.ensures c.before.turned2.given.1
+    runs_refused start.requires.guides.setting at-loop.loop.invariant _ _ _ at_turn.turn.ensures c.before.turned2.given.1
 
 same-length-4 : tie.Need-same-length-4 invariant-loop decreases-loop
 same-length-4 c =
@@ -97,18 +97,18 @@ same-length-4 c =
 same-length-5 : tie.Need-same-length-5 invariant-loop decreases-loop
 same-length-5 c =
     let at-loop = c.before.before in
-    at-loop.loop.invariant.reached.edit-room
+    at-loop.loop.invariant.reached.edit_room_lem
 
 same-length-6 : tie.Need-same-length-6 invariant-loop decreases-loop
 same-length-6 c =
     let at-loop = c.before.before in
-    at-loop.loop.invariant.reached.rule-room
+    at-loop.loop.invariant.reached.rule_room_lem
 
 returns-2 : tie.Need-returns-2 invariant-loop decreases-loop
 returns-2 c =
     let at-loop = c.before.before in
     let start = at-loop.before.before.before.before.before.before.before.before.before.before in
-    runs-end start.requires.guides.setting at-loop.loop.invariant c.if1.false
+    runs_end start.requires.guides.setting at-loop.loop.invariant c.if1.false
 
 pub run_spec : {M : Type 1} → statement M
 run_spec =

@@ -1,8 +1,8 @@
 -- `table_engine::settle` meets its contract: the refusals before the run, or the run.
-use Rattle.base.specs.Blank.{blank-made}
-use Rattle.verdict.specs.Answer.{verdict-in}
-use Rattle.parser.specs.Asking.{asksBy, nothingAsked}
-use Rattle.parser.specs.Parses.{check-refuses, log-can, admits-refuses, log-fits, run-settles}
+use Rattle.base.specs.Blank.{blank_made}
+use Rattle.verdict.specs.Answer.{verdict_in}
+use Rattle.parser.specs.Asking.{asks_by, nothing_asked}
+use Rattle.parser.specs.Parses.{check_refuses, log_can, admits_refuses, log-fits, run_settles}
 use borrow.Author.Rules.{rules}
 use Rattle.table_engine.proofs.settle.Statement.{statement}
 use Rattle.table_engine.proofs.settle.Tie as tie
@@ -14,7 +14,7 @@ slice-aggregate-sets-and-prices-2 : tie.Need-slice-aggregate-sets-and-prices-2
 slice-aggregate-sets-and-prices-2 c = search rules
 
 sets-and-prices-requires : tie.Need-sets-and-prices-requires
-sets-and-prices-requires c κs = (blank-made 65, blank-made 256)
+sets-and-prices-requires c κs = (blank_made 65, blank_made 256)
 
 enum_told : tie.Need-enum-told
 enum_told c = search rules
@@ -22,7 +22,7 @@ enum_told c = search rules
 admits-requires : tie.Need-admits-requires
 admits-requires c κs =
     let at-sets-and-prices = c.before.before.before.before in
-    log-can (asksBy nothingAsked) at-sets-and-prices.sets-and-prices.ensures c.enum_told.given.1
+    log_can (asks_by nothing_asked) at-sets-and-prices.sets-and-prices.ensures c.enum_told.given.1
 
 enum-told-2 : tie.Need-enum-told-2
 enum-told-2 c = search rules
@@ -41,9 +41,9 @@ begin-requires c κs =
     let at-sets-and-prices = at-enum-told.before.before.before.before in
     let passed = at-enum-told.enum_told.given.1 in
     record {
-      verdict = verdict-in at-sets-and-prices.sets-and-prices.ensures passed;
+      verdict = verdict_in at-sets-and-prices.sets-and-prices.ensures passed;
       fits =
-          log-fits (asksBy nothingAsked) at-sets-and-prices.sets-and-prices.ensures passed at-admits.admits.ensures
+          log-fits (asks_by nothing_asked) at-sets-and-prices.sets-and-prices.ensures passed at-admits.admits.ensures
           at-enum-told2.enum-told2.given.1;
       weights = at-sets-and-prices.sets-and-prices.ensures.known passed;
     }
@@ -62,24 +62,24 @@ same-length-2 c = search rules
 
 returns : tie.Need-returns
 returns c =
-    let at-begin = c.before.before.before.before in
-    let at-enum-told2 = at-begin.before.before.before.before.before.before in
+    let at_begin = c.before.before.before.before in
+    let at-enum-told2 = at_begin.before.before.before.before.before.before in
     let at-admits = at-enum-told2.before.before in
     let at-enum-told = at-admits.before in
     let at-sets-and-prices = at-enum-told.before.before.before.before in
-    run-settles (asksBy nothingAsked) at-sets-and-prices.sets-and-prices.ensures at-enum-told.enum_told.given.1 at-admits.admits.ensures _ _ _ _ _ at-enum-told2.enum-told2.given.1 at-begin.begin.ensures
+    run_settles (asks_by nothing_asked) at-sets-and-prices.sets-and-prices.ensures at-enum-told.enum_told.given.1 at-admits.admits.ensures _ _ _ _ _ at-enum-told2.enum-told2.given.1 at_begin.begin.ensures
 
 returns-2 : tie.Need-returns-2
 returns-2 c =
     let at-admits = c.before.before.before in
     let at-enum-told = at-admits.before in
     let at-sets-and-prices = at-enum-told.before.before.before.before in
-    admits-refuses (asksBy nothingAsked) at-sets-and-prices.sets-and-prices.ensures at-enum-told.enum_told.given.1 at-admits.admits.ensures _ _ _ _ c.before.admitted.given.1
+    admits_refuses (asks_by nothing_asked) at-sets-and-prices.sets-and-prices.ensures at-enum-told.enum_told.given.1 at-admits.admits.ensures _ _ _ _ c.before.admitted.given.1
 
 returns-3 : tie.Need-returns-3
 returns-3 c =
     let at-sets-and-prices = c.before.before.before.before.before in
-    check-refuses (asksBy nothingAsked) at-sets-and-prices.sets-and-prices.ensures _ _ _ _ _ c.before.checked.given.1
+    check_refuses (asks_by nothing_asked) at-sets-and-prices.sets-and-prices.ensures _ _ _ _ _ c.before.checked.given.1
 
 pub settle-spec : {M : Type 1} → statement M
 settle-spec =

@@ -1,6 +1,6 @@
 -- `table_engine::turn` meets its contract: each choice is a decision of the run.
-use Rattle.table_engine.specs.Engine.{choose-can, count-can, correct-can, expand-can}
-use Rattle.table_engine.specs.Engine.{turn_match, turn-drop, turn-correct, turn-full, turn-expand}
+use Rattle.table_engine.specs.Engine.{choose_can, count_can, correct_can, expand_can}
+use Rattle.table_engine.specs.Engine.{turn_match, turn_drop, turn_correct, turn_full, turn_expand}
 use borrow.Author.Rules.{rules}
 use Rattle.table_engine.proofs.turn.Statement.{statement}
 use Rattle.table_engine.proofs.turn.Tie as tie
@@ -11,7 +11,7 @@ token-at-requires c κs = search rules
 choose-requires : tie.Need-choose-requires
 choose-requires c κs =
     let start = c.before.before.before.before.before.before.before.before.before.before in
-    choose-can start.requires c.before.token-at.ensures
+    choose_can start.requires c.before.token-at.ensures
 
 enum_told : tie.Need-enum-told
 enum_told c = search rules
@@ -20,7 +20,7 @@ matched-requires : tie.Need-matched-requires
 matched-requires c κs =
     let at-token-at = c.before.before.before.before in
     let start = at-token-at.before.before.before.before.before.before.before.before.before in
-    count-can start.requires at-token-at.token-at.ensures
+    count_can start.requires at-token-at.token-at.ensures
 
 enum-known-picked : tie.Need-enum-known-picked
 enum-known-picked c = search rules
@@ -31,7 +31,7 @@ expand-requires c κs =
     let at-choose = at-picked.before.before in
     let at-token-at = at-choose.before.before in
     let start = at-token-at.before.before.before.before.before.before.before.before.before in
-    expand-can start.requires at-token-at.token-at.ensures at-choose.choose.ensures at-picked.picked.given.1
+    expand_can start.requires at-token-at.token-at.ensures at-choose.choose.ensures at-picked.picked.given.1
 
 enum-told-2 : tie.Need-enum-told-2
 enum-told-2 c = search rules
@@ -40,7 +40,7 @@ dropped-requires : tie.Need-dropped-requires
 dropped-requires c κs =
     let at-token-at = c.before.before.before.before in
     let start = at-token-at.before.before.before.before.before.before.before.before.before in
-    count-can start.requires at-token-at.token-at.ensures
+    count_can start.requires at-token-at.token-at.ensures
 
 enum-told-3 : tie.Need-enum-told-3
 enum-told-3 c = search rules
@@ -49,7 +49,7 @@ correct-requires : tie.Need-correct-requires
 correct-requires c κs =
     let at-token-at = c.before.before.before.before.before.before in
     let start = at-token-at.before.before.before.before.before.before.before.before.before in
-    correct-can start.requires at-token-at.token-at.ensures
+    correct_can start.requires at-token-at.token-at.ensures
 
 enum-known-corrected : tie.Need-enum-known-corrected
 enum-known-corrected c = search rules
@@ -81,7 +81,7 @@ returns-2 c =
     let at-expand = c.before.before.before.before in
     let at-token-at = at-expand.before.before.before.before.before.before.before.before in
     let start = at-token-at.before.before.before.before.before.before.before.before.before in
-    turn-expand start.requires at-token-at.token-at.ensures _ _ _ at-expand.expand.ensures
+    turn_expand start.requires at-token-at.token-at.ensures _ _ _ at-expand.expand.ensures
 
 same-length-4 : tie.Need-same-length-4
 same-length-4 c = search rules
@@ -91,7 +91,7 @@ returns-3 c =
     let at-choose = c.before.before.before in
     let at-token-at = at-choose.before.before in
     let start = at-token-at.before.before.before.before.before.before.before.before.before in
-    turn-drop start.requires at-token-at.token-at.ensures at-choose.choose.ensures c.before.enum-told2.given.1 c.dropped.ensures
+    turn_drop start.requires at-token-at.token-at.ensures at-choose.choose.ensures c.before.enum-told2.given.1 c.dropped.ensures
 
 same-length-5 : tie.Need-same-length-5
 same-length-5 c = search rules
@@ -107,7 +107,7 @@ returns-4 c =
     let at-choose = at-enum-told3.before.before in
     let at-token-at = at-choose.before.before in
     let start = at-token-at.before.before.before.before.before.before.before.before.before in
-    turn-correct start.requires at-token-at.token-at.ensures at-choose.choose.ensures _ at-enum-told3.enum-told3.given.1
+    turn_correct start.requires at-token-at.token-at.ensures at-choose.choose.ensures _ at-enum-told3.enum-told3.given.1
     at-correct.correct.ensures at-corrected.corrected.given.1 c.windowless.ensures
 
 same-length-7 : tie.Need-same-length-7
@@ -123,7 +123,7 @@ returns-5 c =
     let at-choose = at-enum-told3.before.before in
     let at-token-at = at-choose.before.before in
     let start = at-token-at.before.before.before.before.before.before.before.before.before in
-    turn-full start.requires at-token-at.token-at.ensures at-choose.choose.ensures _ at-enum-told3.enum-told3.given.1
+    turn_full start.requires at-token-at.token-at.ensures at-choose.choose.ensures _ at-enum-told3.enum-told3.given.1
     at-correct.correct.ensures c.enum-told4.given.1
 
 pub turn_spec : {M : Type 1} → statement M

@@ -3,19 +3,19 @@
 use Prim.Native.Nat.{◌-◌, ◌<◌, ◌≤◌}
 use mathlib.Core.Path.{◌≡◌, sym, ap, ◌∙◌}
 use native.Mathlib.Omega.{arith}
-use Rattle.test_buffers.specs.Digest.{digestOf, digest-none, digest-more, digest-step}
+use Rattle.test_buffers.specs.Digest.{digest_of, digest_none, digest_more, digest_step}
 use borrow.Author.Rules.{rules}
 use Rattle.test_buffers.proofs.digest_bytes.Statement.{statement}
 use Rattle.test_buffers.proofs.digest_bytes.Tie as tie
 
 abbrev invariant-loop : tie.invariant-loop
-invariant-loop bytes room sum₀ i₀ sum i = (i ≤ room) × ((sum < 4294967291) × (sum ≡ digestOf bytes i))
+invariant-loop bytes room sum₀ i₀ sum i = (i ≤ room) × ((sum < 4294967291) × (sum ≡ digest_of bytes i))
 
 abbrev decreases-loop : tie.decreases-loop
 decreases-loop bytes room sum₀ i₀ sum i = room - i
 
 loop-holds : tie.Need-loop-init invariant-loop decreases-loop
-loop-holds c = (omega arith, (omega arith, sym (digest-none _)))
+loop-holds c = (omega arith, (omega arith, sym (digest_none _)))
 
 mul-sum : tie.Need-overflow-mul-sum invariant-loop decreases-loop
 mul-sum c = search rules
@@ -40,13 +40,13 @@ loop-again c =
     let turn = c.before.before in
     let inv = turn.before.loop.invariant in (
       omega (arith, turn.loop-test.true),
-      (omega arith, digest-step inv.1.1 c.wide-byte.ensures.0 ∙ sym (digest-more _ _)),
+      (omega arith, digest_step inv.1.1 c.wide-byte.ensures.0 ∙ sym (digest_more _ _)),
     )
 
 returns : tie.Need-returns invariant-loop decreases-loop
 returns c =
     let inv = c.before.loop.invariant in
-    inv.1.1 ∙ ap (digestOf _) (omega (arith, inv.0, c.loop-test.false))
+    inv.1.1 ∙ ap (digest_of _) (omega (arith, inv.0, c.loop-test.false))
 
 pub digest-bytes-spec : {M : Type 1} → statement M
 digest-bytes-spec =

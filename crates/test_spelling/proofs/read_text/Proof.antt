@@ -49,9 +49,9 @@ loop-again : tie.Need-loop-preserved invariant-loop decreases-loop
 loop-again c =
     let at_part = c.before.before.before.before in
     let at-loop = at_part.before.before.before.before.before in
-    let kept = at_part.read-part.auto.1 in
+    let kept = at_part.read_part.auto.1 in
     let size = at_part.before.before.before.least.result in
-    let same = length_front at-loop.loop.chunk at_part.read-part.new.1.0 size kept.0 in
+    let same = length_front at-loop.loop.chunk at_part.read_part.new.1.0 size kept.0 in
     (kept.1.0 ∙ at-loop.loop.invariant.0, same ∙ at-loop.loop.invariant.1, omega arith, omega arith)
 
 same_length : tie.Need-same-length invariant-loop decreases-loop

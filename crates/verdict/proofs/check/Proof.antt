@@ -1,6 +1,6 @@
 -- `verdict::check` meets its contract: it is `priced` with a table that was just made.
 use borrow.Author.Rules.{rules}
-use Rattle.base.specs.Blank.{blank-made}
+use Rattle.base.specs.Blank.{blank_made}
 use Rattle.verdict.proofs.check.Statement.{statement}
 use Rattle.verdict.proofs.check.Tie as tie
 
@@ -8,7 +8,7 @@ slice-aggregate-priced : tie.Need-slice-aggregate-priced
 slice-aggregate-priced c = search rules
 
 priced-requires : tie.Need-priced-requires
-priced-requires c κs = blank-made 192
+priced-requires c κs = blank_made 192
 
 returns : tie.Need-returns
 returns c = search rules

@@ -1,8 +1,8 @@
 -- `verdict::judge` meets its contract: the shape first, then the other conditions, with room for as many rules as there are.
 use native.Mathlib.Omega.{arith}
-use Rattle.base.specs.Blank.{blank-made}
+use Rattle.base.specs.Blank.{blank_made}
 use Rattle.verdict.specs.Answer.{refusing}
-use Rattle.verdict.specs.Judge.{refused-5}
+use Rattle.verdict.specs.Judge.{refused_5}
 use borrow.Author.Rules.{rules}
 use Rattle.verdict.proofs.judge.Statement.{statement}
 use Rattle.verdict.proofs.judge.Tie as tie
@@ -11,7 +11,7 @@ shape-requires : tie.Need-shape-requires
 shape-requires c κs = search rules
 
 returns : tie.Need-returns
-returns c = refusing (refused-5 _ (c.before.shape.ensures.no c.if1.false))
+returns c = refusing (refused_5 _ (c.before.shape.ensures.no c.if1.false))
 
 rule-count-requires : tie.Need-rule-count-requires
 rule-count-requires c κs = (c.before.shape.ensures.yes c.if1.true).shaped
@@ -22,12 +22,12 @@ slice-aggregate-judge-by c = search rules
 judge-by-requires : tie.Need-judge-by-requires
 judge-by-requires c κs =
     let by-if1 = c.before.before.before.before.before.before.before.if1 in
-    let by_shape = c.before.before.before.before.before.before.before.before.shape in
+    let by_shape_lem = c.before.before.before.before.before.before.before.before.shape in
     let start = c.before.before.before.before.before.before.before.before.before.before.before.before.before in (
-      by_shape.ensures.yes by-if1.true,
+      by_shape_lem.ensures.yes by-if1.true,
       (
-        (blank-made 260).zeros,
-        (omega (arith, (by_shape.ensures.yes by-if1.true).shaped.rules-high), (start.requires.0, start.requires.1)),
+        (blank_made 260).zeros,
+        (omega (arith, (by_shape_lem.ensures.yes by-if1.true).shaped.rules_high), (start.requires.0, start.requires.1)),
       ),
     )
 
@@ -48,12 +48,12 @@ judge-by-requires-2 c κs =
     let by-if2 = c.before.before.before.before.before.if2 in
     let by-rule-count = c.before.before.before.before.before.before.rule-count in
     let by-if1 = c.before.before.before.before.before.before.before.if1 in
-    let by_shape = c.before.before.before.before.before.before.before.before.shape in
+    let by_shape_lem = c.before.before.before.before.before.before.before.before.shape in
     let start = c.before.before.before.before.before.before.before.before.before.before.before.before.before in
     let few = by-if2.false in (
-      by_shape.ensures.yes by-if1.true,
+      by_shape_lem.ensures.yes by-if1.true,
       (
-        (blank-made 65).zeros,
+        (blank_made 65).zeros,
         (omega (arith, by-rule-count.ensures), (start.requires.0, start.requires.1)),
       ),
     )

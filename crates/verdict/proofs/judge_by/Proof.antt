@@ -1,11 +1,11 @@
 -- `verdict::judge_by` meets its contract: each test tells its condition, in the order of document 01.
 use native.Mathlib.Omega.{arith}
 use mathlib.Core.Path.{◌∙◌}
-use Rattle.base.specs.Blank.{blank-made, blank_part}
+use Rattle.base.specs.Blank.{blank_made, blank_part}
 use Rattle.verdict.specs.Answer.{accepting, refusing}
-use Rattle.verdict.specs.Judge.{refused-6, refused-9, refused-dear, productive-limited, accepted}
-use Rattle.verdict.specs.Prices.{afford-all}
-use Rattle.verdict.specs.Sets.{sets-filled}
+use Rattle.verdict.specs.Judge.{refused_6, refused_9, refused_dear, productive_limited, accepted}
+use Rattle.verdict.specs.Prices.{afford_all}
+use Rattle.verdict.specs.Sets.{sets_filled}
 use borrow.Author.Rules.{rules}
 use Rattle.verdict.proofs.judge_by.Statement.{statement}
 use Rattle.verdict.proofs.judge_by.Tie as tie
@@ -16,7 +16,7 @@ slice-aggregate-reachable c = search rules
 reachable-requires : tie.Need-reachable-requires
 reachable-requires c κs =
     let start = c.before.before.before.before.before.before.before in
-    (start.requires.0, (start.requires.1.0, (start.requires.1.1.0, blank-made 64)))
+    (start.requires.0, (start.requires.1.0, (start.requires.1.1.0, blank_made 64)))
 
 same_length : tie.Need-same-length
 same_length c = search rules
@@ -25,7 +25,7 @@ returns : tie.Need-returns
 returns c =
     let at-reachable = c.before.before.before.before in
     let start = at-reachable.before.before.before.before.before.before.before.before in
-    refusing (refused-6 _ start.requires.0.shaped (at-reachable.reachable.ensures.tells.no c.if1.false))
+    refusing (refused_6 _ start.requires.0.shaped (at-reachable.reachable.ensures.tells.no c.if1.false))
 
 costs-requires : tie.Need-costs-requires
 costs-requires c κs = search rules
@@ -50,7 +50,7 @@ returns-2 c =
     let at-reachable = at-if1.before.before.before.before in
     let start = at-reachable.before.before.before.before.before.before.before.before in
     refusing
-    (refused-dear start.requires.0.shaped (at-reachable.reachable.ensures.tells.yes at-if1.if1.true) at-costs.costs.ensures
+    (refused_dear start.requires.0.shaped (at-reachable.reachable.ensures.tells.yes at-if1.if1.true) at-costs.costs.ensures
     (at-within.within.ensures.no c.before.before.if2.false) c.unaffordable.ensures)
 
 empties-requires : tie.Need-empties-requires
@@ -103,8 +103,8 @@ returns-3 c =
     let costed = at-costs.costs.ensures in
     let limited = at-within.within.ensures.yes at-empties.before.before.if2.true in
     refusing
-    (refused-9 _ start.requires.0.shaped (at-reachable.reachable.ensures.tells.yes at-if1.if1.true)
-    (productive-limited costed limited) (afford-all costed limited) (at-predictable.predictable.ensures.tells.no c.if3.false))
+    (refused_9 _ start.requires.0.shaped (at-reachable.reachable.ensures.tells.yes at-if1.if1.true)
+    (productive_limited costed limited) (afford_all costed limited) (at-predictable.predictable.ensures.tells.no c.if3.false))
 
 slice-write-sets : tie.Need-slice-write-sets
 slice-write-sets c =
@@ -137,13 +137,13 @@ returns-4 c =
     let limited = at-within.within.ensures.yes at-empties.before.before.if2.true in
     let size = at-predictable.predictable.auto.1.1.1.1.0 ∙ at-predictable.before.predictable-arg.given.2 in
     accepting
-    (accepted _ ready.shaped (at-reachable.reachable.ensures.tells.yes at-if1.if1.true) (productive-limited costed limited)
-    (afford-all costed limited) (at-predictable.predictable.ensures.tells.yes c.if3.true))
+    (accepted _ ready.shaped (at-reachable.reachable.ensures.tells.yes at-if1.if1.true) (productive_limited costed limited)
+    (afford_all costed limited) (at-predictable.predictable.ensures.tells.yes c.if3.true))
     (record {
       ready = ready;
       costed = costed;
       limited = limited;
-      exact = sets-filled start.args.sets.now _ _ ready.shaped
+      exact = sets_filled start.args.sets.now _ _ ready.shaped
           start.requires.1.1.1.1.size size at-predictable.predictable.ensures.exact at-empties.empties.ensures;
     })
 

@@ -3,7 +3,7 @@ use borrow.Author.Rules.{rules}
 use native.Mathlib.Omega.{arith}
 use Prim.Native.Nat.{◌-◌}
 use mathlib.Core.Path.{sym, ◌∙◌}
-use Rattle.verdict.specs.Prices.{Limits, limits-begin, limits-go, limits-end}
+use Rattle.verdict.specs.Prices.{Limits, limits_begin, limits_go, limits_end}
 use Rattle.verdict.proofs.limits.Statement.{statement}
 use Rattle.verdict.proofs.limits.Tie as tie
 
@@ -23,7 +23,7 @@ terminals-at-requires : tie.Need-terminals-at-requires invariant-loop decreases-
 terminals-at-requires c κs = c.before.before.before.requires.0
 
 loop-holds : tie.Need-loop-init invariant-loop decreases-loop
-loop-holds c = limits-begin c.before.before.before.before.args.limits.now c.before.before.before.before.requires.1
+loop-holds c = limits_begin c.before.before.before.before.args.limits.now c.before.before.before.before.requires.1
 
 reliability-of-requires : tie.Need-reliability-of-requires invariant-loop decreases-loop
 reliability-of-requires c κs =
@@ -43,7 +43,7 @@ mul-limits : tie.Need-overflow-mul-limits invariant-loop decreases-loop
 mul-limits c =
     let at-terminal-count = c.before.before.before.before in
     let start = at-terminal-count.before.before.before in
-    omega (arith, c.before.loop-test.true, at-terminal-count.terminal-count.ensures, start.requires.0.terminals-high)
+    omega (arith, c.before.loop-test.true, at-terminal-count.terminal-count.ensures, start.requires.0.terminals_high)
 
 slice-write-limits-2 : tie.Need-slice-write-limits-2 invariant-loop decreases-loop
 slice-write-limits-2 c =
@@ -51,7 +51,7 @@ slice-write-limits-2 c =
     let at-terminal-count = turn.before.before in
     let start = at-terminal-count.before.before.before in
     omega
-    (arith, c.before.loop-test.true, at-terminal-count.terminal-count.ensures, start.requires.0.terminals-high, turn.loop.invariant.size)
+    (arith, c.before.loop-test.true, at-terminal-count.terminal-count.ensures, start.requires.0.terminals_high, turn.loop.invariant.size)
 
 add-t : tie.Need-overflow-add-t invariant-loop decreases-loop
 add-t c = search rules
@@ -64,8 +64,8 @@ loop-again c =
     let turn = c.before.before in
     let at-terminal-count = turn.before.before in
     let start = at-terminal-count.before.before.before in
-    limits-go turn.loop.invariant
-    (omega (arith, c.before.loop-test.true, at-terminal-count.terminal-count.ensures, start.requires.0.terminals-high))
+    limits_go turn.loop.invariant
+    (omega (arith, c.before.loop-test.true, at-terminal-count.terminal-count.ensures, start.requires.0.terminals_high))
     c.reliability-of.ensures
 
 same_length : tie.Need-same-length invariant-loop decreases-loop
@@ -75,7 +75,7 @@ returns : tie.Need-returns invariant-loop decreases-loop
 returns c =
     let at-terminal-count = c.before.before.before in
     let start = at-terminal-count.before.before.before in
-    limits-end c.before.loop.invariant start.requires.0.terminals-low
+    limits_end c.before.loop.invariant start.requires.0.terminals_low
     (omega (arith, at-terminal-count.terminal-count.ensures, c.loop-test.false))
 
 pub limits-spec : {M : Type 1} → statement M

@@ -1,6 +1,6 @@
 -- `verdict::reachable` meets its contract: the set is exact, so that it tells whether all are in it.
 use Rattle.base.specs.Telling.{tells_as}
-use Rattle.mentions.specs.Reaching.{reach-exact, spent-blank}
+use Rattle.mentions.specs.Reaching.{reach_exact, spent_blank}
 use borrow.Author.Rules.{rules}
 use Rattle.verdict.proofs.reachable.Statement.{statement}
 use Rattle.verdict.proofs.reachable.Tie as tie
@@ -29,12 +29,12 @@ returns c =
     let by-gather = c.before.before.before.before.before.before.before.before.before.gather in
     let start = c.before.before.before.before.before.before.before.before.before.before.before.before.before.before.before.before in
     let uses = by-gather.ensures.1 in
-    let exact = reach-exact uses by-reach.ensures.0 in
+    let exact = reach_exact uses by-reach.ensures.0 in
     record {
       gathered = by-gather.ensures.0;
       tells = tells_as (λ f k h. (exact k).0 (f k h)) (λ f k h. (exact k).1 (f k h)) c.covers.ensures;
       blank = λ e.
-          spent-blank uses _ start.requires.0.shaped (c.covers.ensures.yes e) by-reach.ensures.1 (λ k. (known.given k).fits);
+          spent_blank uses _ start.requires.0.shaped (c.covers.ensures.yes e) by-reach.ensures.1 (λ k. (known.given k).fits);
     }
 
 pub reachable-spec : {M : Type 1} → statement M

@@ -2,7 +2,7 @@
 use borrow.Author.Rules.{rules}
 use native.Mathlib.Omega.{arith}
 use Rattle.base.specs.Blank.{blank_part}
-use Rattle.verdict.specs.Answer.{accepting, refusing, verdict-in, shared}
+use Rattle.verdict.specs.Answer.{accepting, refusing, verdict_in, shared}
 use Rattle.verdict.proofs.tables.Statement.{statement}
 use Rattle.verdict.proofs.tables.Tie as tie
 
@@ -18,7 +18,7 @@ part-judge-end c = search rules
 judge-requires : tie.Need-judge-requires
 judge-requires c κs =
     let start = c.before.before.before.before.before.before.before.before in
-    (blank_part 0 192 start.requires.prices-blank (omega arith), start.requires.sets-blank)
+    (blank_part 0 192 start.requires.prices_blank (omega arith), start.requires.sets_blank)
 
 enum_told : tie.Need-enum-told
 enum_told c = search rules
@@ -44,7 +44,7 @@ fill-requires c κs =
     let judge = told.before.before.before.before.before.before in
     let start = judge.before.before.before.before.before.before.before.before.before in
     let passing = judge.judge.ensures.known told.enum_told.given.1 in
-    (passing.ready, (passing.exact, (start.requires.sides-size, start.requires.rows-size)))
+    (passing.ready, (passing.exact, (start.requires.sides_size, start.requires.rows_size)))
 
 enum-known-answer : tie.Need-enum-known-answer
 enum-known-answer c = search rules
@@ -68,8 +68,8 @@ returns c =
     let start = judge.before.before.before.before.before.before.before.before.before in
     let accepted = told.enum_told.given.1 in
     let limits = c.before.before.before.before.before.before.before.before.before.before.before.limits.ensures in
-    accepting (verdict-in judge.judge.ensures accepted) (record {
-      shared = shared start.args.prices.now _ (judge.judge.ensures.known accepted) start.requires.prices-blank.size limits;
+    accepting (verdict_in judge.judge.ensures accepted) (record {
+      shared = shared start.args.prices.now _ (judge.judge.ensures.known accepted) start.requires.prices_blank.size limits;
       pushes = c.before.before.before.before.fill.ensures;
     })
 
@@ -82,7 +82,7 @@ same-length-6 c = search rules
 returns-2 : tie.Need-returns-2
 returns-2 c =
     let judge = c.before.before.before.before.before.before.before.judge in
-    refusing (verdict-in judge.ensures c.before.answer.given.1)
+    refusing (verdict_in judge.ensures c.before.answer.given.1)
 
 pub tables-spec : {M : Type 1} → statement M
 tables-spec =

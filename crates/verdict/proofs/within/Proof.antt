@@ -18,7 +18,7 @@ decreases-loop words costs limit count k₀ k = count - k
 low : (c : tie.In-loop invariant-loop decreases-loop) → c.before.loop.k < 64
 low c =
     let n = c.before.before.nonterminal-count.ensures in
-    omega (arith, c.loop-test.true, c.before.before.before.before.before.requires.0.nonterminals-high)
+    omega (arith, c.loop-test.true, c.before.before.before.before.before.requires.0.nonterminals_high)
 
 nonterminal-count-requires : tie.Need-nonterminal-count-requires invariant-loop decreases-loop
 nonterminal-count-requires c κs = c.before.before.requires.0

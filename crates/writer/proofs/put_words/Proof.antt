@@ -3,7 +3,7 @@ use borrow.Author.Rules.{rules}
 use native.Mathlib.Omega.{arith}
 use Prim.Native.Nat.{◌-◌, ◌≤◌}
 use native.Mathlib.Omega.{arith}
-use Rattle.writer.proofs.Putting.{WordsPut, words-begin, words-go, words-end}
+use Rattle.writer.proofs.Putting.{WordsPut, words_begin, words_go, words_end}
 use Rattle.writer.proofs.put_words.Statement.{statement}
 use Rattle.writer.proofs.put_words.Tie as tie
 
@@ -14,7 +14,7 @@ abbrev decreases-loop : tie.decreases-loop
 decreases-loop words from used bytes₀ at i₀ bytes i = used - i
 
 loop-holds : tie.Need-loop-init invariant-loop decreases-loop
-loop-holds c = (omega arith, words-begin _ _ _ _)
+loop-holds c = (omega arith, words_begin _ _ _ _)
 
 mul-put-pair : tie.Need-overflow-mul-put-pair invariant-loop decreases-loop
 mul-put-pair c = search rules
@@ -44,13 +44,13 @@ loop-again : tie.Need-loop-preserved invariant-loop decreases-loop
 loop-again c =
     let put = c.before.before.put-pair in
     let inv = c.before.before.before.before.before.before.loop.invariant in
-    (omega arith, words-go inv.1 (omega arith) (omega arith) put.auto.0 put.ensures)
+    (omega arith, words_go inv.1 (omega arith) (omega arith) put.auto.0 put.ensures)
 
 same_length : tie.Need-same-length invariant-loop decreases-loop
 same_length c = c.before.loop.invariant.1.same
 
 returns : tie.Need-returns invariant-loop decreases-loop
-returns c = words-end c.before.before.before.before.args.used c.before.loop.invariant.1 (omega arith)
+returns c = words_end c.before.before.before.before.args.used c.before.loop.invariant.1 (omega arith)
 
 pub put-words-spec : {M : Type 1} → statement M
 put-words-spec =

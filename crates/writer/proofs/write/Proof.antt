@@ -4,8 +4,8 @@ use native.Mathlib.Omega.{arith}
 use lib.ListN.{length}
 use Rattle.grammar.specs.Words.{UnitOne}
 use Rattle.grammar.specs.Writing.{WordCount}
-use Rattle.grammar.specs.theory.Fills.{made-clear, lent-clear}
-use Rattle.writer.proofs.Answering.{refuses-count, refuses-unit, refuses-room, writes}
+use Rattle.grammar.specs.Theory.Fills.{made_clear, lent_clear}
+use Rattle.writer.proofs.Answering.{refuses_count, refuses_unit, refuses_room, writes}
 use borrow.Author.Rules.{rules}
 use Rattle.writer.proofs.write.Statement.{statement}
 use Rattle.writer.proofs.write.Tie as tie
@@ -15,9 +15,9 @@ counted : (c : tie.Then1) → WordCount (length c.before.before.before.before.be
 counted c = c.before.count-right.ensures.yes c.if1.true
 
 -- And the unit is not 1.
-other-unit : (c : tie.Else2)
+other_unit : (c : tie.Else2)
     → UnitOne c.before.before.before.before.before.before.before.before.before.before.args.words.now → ⊥
-other-unit c = c.before.unit-one.ensures.no c.if2.false
+other_unit c = c.before.unit_one.ensures.no c.if2.false
 
 clear-bytes-requires : tie.Need-clear-bytes-requires
 clear-bytes-requires c κs = search rules
@@ -30,8 +30,8 @@ same_length c = search rules
 
 returns : tie.Need-returns
 returns c =
-    refuses-count _ _ (c.before.count-right.ensures.no c.if1.false)
-    (made-clear _ c.before.before.before.before.clear-bytes.ensures)
+    refuses_count _ _ (c.before.count-right.ensures.no c.if1.false)
+    (made_clear _ c.before.before.before.before.clear-bytes.ensures)
 
 unit-one-requires : tie.Need-unit-one-requires
 unit-one-requires c κs = search rules
@@ -43,7 +43,7 @@ returns-2 : tie.Need-returns-2
 returns-2 c =
     let unit = c.before in
     let clear = unit.before.before.before.before.before.clear-bytes in
-    refuses-unit _ _ (counted unit.before) (unit.unit-one.ensures.yes c.if2.true) (made-clear _ clear.ensures)
+    refuses_unit _ _ (counted unit.before) (unit.unit_one.ensures.yes c.if2.true) (made_clear _ clear.ensures)
 
 blocks-for-requires : tie.Need-blocks-for-requires
 blocks-for-requires c κs = (counted c.before.before).most
@@ -60,7 +60,7 @@ returns-3 c =
     let tested = c.before.before in
     let clear = tested.before.before.before.before.before.before.clear-bytes in
     let same = clear.auto.0 in
-    refuses-room _ _ (counted tested.before.before) (other-unit tested) (omega arith) (made-clear _ clear.ensures)
+    refuses_room _ _ (counted tested.before.before) (other_unit tested) (omega arith) (made_clear _ clear.ensures)
 
 write-blocks-requires : tie.Need-write-blocks-requires
 write-blocks-requires c κs =
@@ -68,7 +68,7 @@ write-blocks-requires c κs =
     let most = (counted tested.before.before).most in
     let blocks = c.before.before.blocks-for.ensures in
     let clear = tested.before.before.before.before.before.before.clear-bytes in
-    (blocks, (omega arith, (omega arith, lent-clear clear.auto.0 (made-clear _ clear.ensures))))
+    (blocks, (omega arith, (omega arith, lent_clear clear.auto.0 (made_clear _ clear.ensures))))
 
 same-length-4 : tie.Need-same-length-4
 same-length-4 c = search rules
@@ -79,7 +79,7 @@ returns-4 c =
     let blocks = sized.blocks-for.ensures in
     let tested = sized.before in
     let same = tested.before.before.before.before.before.before.clear-bytes.auto.0 in
-    writes _ _ (counted tested.before.before) (other-unit tested) (omega arith) (omega arith) same
+    writes _ _ (counted tested.before.before) (other_unit tested) (omega arith) (omega arith) same
     c.before.before.write-blocks.ensures
 
 pub write_spec : {M : Type 1} → statement M

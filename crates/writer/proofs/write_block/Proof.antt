@@ -1,5 +1,5 @@
--- `writer::write_block` meets its contract: number, use count, words and check, each behind what stands there (`block-put`).
-use Rattle.writer.proofs.Putting.{block-put}
+-- `writer::write_block` meets its contract: number, use count, words and check, each behind what stands there (`block_put`).
+use Rattle.writer.proofs.Putting.{block_put}
 use borrow.Author.Rules.{rules}
 use Rattle.writer.proofs.write_block.Statement.{statement}
 use Rattle.writer.proofs.write_block.Tie as tie
@@ -63,7 +63,7 @@ returns c =
     let number = header.before.before.before.before in
     let count = number.before.before in
     let pre = count.before.before.before.requires in
-    block-put _ _ _ pre.1.1.0 pre.1.1.1 count.used-of.ensures number.put-pair.ensures header.put-pair2.ensures
+    block_put _ _ _ pre.1.1.0 pre.1.1.1 count.used-of.ensures number.put-pair.ensures header.put-pair2.ensures
     words.put-words.ensures checked.check-of.ensures c.before.before.put-pair3.ensures
 
 pub write-block-spec : {M : Type 1} → statement M

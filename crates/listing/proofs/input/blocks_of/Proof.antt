@@ -1,7 +1,7 @@
 -- `listing::input::blocks_of` meets its contract: each test shuts out one part of `Counted`, and behind the last all of it holds.
 use native.Mathlib.Omega.{arith}
 use Rattle.listing.specs.Answer.{uncounted}
-use Rattle.listing.proofs.Inputs.{blocks_end}
+use Rattle.listing.proofs.Inputs.{blocks_end_lem}
 use borrow.Author.Rules.{rules}
 use Rattle.listing.proofs.input.blocks_of.Statement.{statement}
 use Rattle.listing.proofs.input.blocks_of.Tie as tie
@@ -28,7 +28,7 @@ returns-4 : tie.Need-returns-4
 returns-4 c = uncounted (λ right. omega (arith, right.present, c.before.before.before.number.ensures.0))
 
 returns-5 : tie.Need-returns-5
-returns-5 c = blocks_end _ _ c.before.before.before.number.ensures.0 (omega arith) (omega arith) (omega arith) (omega arith)
+returns-5 c = blocks_end_lem _ _ c.before.before.before.number.ensures.0 (omega arith) (omega arith) (omega arith) (omega arith)
 
 pub blocks-of-spec : {M : Type 1} → statement M
 blocks-of-spec =

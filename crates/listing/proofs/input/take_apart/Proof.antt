@@ -2,7 +2,7 @@
 use mathlib.Core.Path.{ap}
 use Rattle.file.specs.Answer.{reading_of}
 use Rattle.listing.specs.Answer.{end_of}
-use Rattle.listing.proofs.Inputs.{taken-uncounted, taken-unread, taken-apart}
+use Rattle.listing.proofs.Inputs.{taken_uncounted, taken_unread, taken_apart}
 use borrow.Author.Rules.{rules}
 use Rattle.listing.proofs.input.take_apart.Statement.{statement}
 use Rattle.listing.proofs.input.take_apart.Tie as tie
@@ -38,7 +38,7 @@ returns : tie.Need-returns
 returns c =
     let at-counted = c.before in
     let at-blocks-of = at-counted.before.before in
-    taken-uncounted at-blocks-of.blocks-of.ensures (ap end_of at-counted.counted.given.1)
+    taken_uncounted at-blocks-of.blocks-of.ensures (ap end_of at-counted.counted.given.1)
 
 same_length : tie.Need-same-length
 same_length c = search rules
@@ -50,7 +50,7 @@ returns-2 c =
     let at-file-of = at_read.before.before in
     let at-counted2 = at-file-of.before.before in
     let at-blocks-of = at-counted2.before.before in
-    taken-unread at-blocks-of.blocks-of.ensures (ap end_of at-counted2.counted2.given.1) at-file-of.file-of.ensures
+    taken_unread at-blocks-of.blocks-of.ensures (ap end_of at-counted2.counted2.given.1) at-file-of.file-of.ensures
     at_read.read.ensures (ap reading_of at-reading.reading.given.1)
 
 same-length-2 : tie.Need-same-length-2
@@ -71,7 +71,7 @@ returns-3 c =
     let at-file-of = at_read.before.before in
     let at-counted2 = at-file-of.before.before in
     let at-blocks-of = at-counted2.before.before in
-    taken-apart at-blocks-of.blocks-of.ensures (ap end_of at-counted2.counted2.given.1) at-file-of.file-of.ensures
+    taken_apart at-blocks-of.blocks-of.ensures (ap end_of at-counted2.counted2.given.1) at-file-of.file-of.ensures
     at_read.read.ensures (ap reading_of at-reading2.reading2.given.1)
     at-tokens-from.tokens-from.ensures at-ticks-from.ticks-from.ensures
 

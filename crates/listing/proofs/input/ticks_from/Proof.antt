@@ -4,13 +4,13 @@ use native.Mathlib.Omega.{arith}
 use Prim.Native.Nat.{ℕ, ◌-◌, ◌≤◌, min}
 use mathlib.Core.Path.{◌∙◌, ap}
 use lib.ListN.{length}
-use Rattle.grammar.specs.Listing.{tickAt}
-use Rattle.listing.proofs.Entries.{Filling, filling-begins, filling-goes, filling-ends}
+use Rattle.grammar.specs.Listing.{tick_at}
+use Rattle.listing.proofs.Entries.{Filling, filling_begins, filling_goes, filling_ends}
 use Rattle.listing.proofs.input.ticks_from.Statement.{statement}
 use Rattle.listing.proofs.input.ticks_from.Tie as tie
 
 abbrev invariant-loop : tie.invariant-loop
-invariant-loop input from ticks₀ count i₀ ticks i = (i ≤ count) × Filling (tickAt input) from ticks₀ ticks i
+invariant-loop input from ticks₀ count i₀ ticks i = (i ≤ count) × Filling (tick_at input) from ticks₀ ticks i
 
 abbrev decreases-loop : tie.decreases-loop
 decreases-loop input from ticks₀ count i₀ ticks i = count - i
@@ -22,7 +22,7 @@ least-requires : tie.Need-least-requires invariant-loop decreases-loop
 least-requires c κs = search rules
 
 loop-holds : tie.Need-loop-init invariant-loop decreases-loop
-loop-holds c = (omega arith, filling-begins _ _ _)
+loop-holds c = (omega arith, filling_begins _ _ _)
 
 mul-quad : tie.Need-overflow-mul-quad invariant-loop decreases-loop
 mul-quad c = search rules
@@ -49,7 +49,7 @@ loop-less : tie.Need-loop-smaller invariant-loop decreases-loop
 loop-less c = search rules
 
 loop-again : tie.Need-loop-preserved invariant-loop decreases-loop
-loop-again c = (omega arith, filling-goes c.before.before.loop.invariant.1 (omega arith) c.quad.ensures)
+loop-again c = (omega arith, filling_goes c.before.before.loop.invariant.1 (omega arith) c.quad.ensures)
 
 same_length : tie.Need-same-length invariant-loop decreases-loop
 same_length c = c.before.loop.invariant.1.same
@@ -57,7 +57,7 @@ same_length c = c.before.loop.invariant.1.same
 returns : tie.Need-returns invariant-loop decreases-loop
 returns c =
     let room = length c.before.before.before.before.before.before.args.ticks.now in
-    filling-ends _ c.before.loop.invariant.1 (omega arith)
+    filling_ends _ c.before.loop.invariant.1 (omega arith)
     (c.before.before.least.ensures.0 ∙ ap (λ (n : ℕ). min n room) c.before.before.before.whole-entries.ensures)
 
 pub ticks-from-spec : {M : Type 1} → statement M

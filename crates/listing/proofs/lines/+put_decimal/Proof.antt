@@ -1,8 +1,8 @@
--- `listing::lines::put_decimal` meets its contract: by `decimal-one` and `decimal-more`. The measure is the number.
+-- `listing::lines::put_decimal` meets its contract: by `decimal_one` and `decimal_more`. The measure is the number.
 use native.Mathlib.Omega.{arith}
 use mathlib.Core.Path.{sym}
 use Rattle.listing.specs.Writing.{put_as, put_then}
-use Rattle.listing.proofs.Numbers.{decimal-one, decimal-more}
+use Rattle.listing.proofs.Numbers.{decimal_one, decimal_more}
 use borrow.Author.Rules.{rules}
 use Prim.Native.Nat.{ℕ, ◌<◌}
 use borrow.Fn.Kinds.{In}
@@ -64,7 +64,7 @@ put-decimal-returns : (t : ℕ) → put-decimal-lts.Need-returns (
   put-decimal.Post,
 ) (put-decimal-at t) put-decimal.Post
 put-decimal-returns t c =
-    put_as c.before.before.put_byte.ensures (sym (decimal-one _ c.before.before.before.before.if1.true))
+    put_as c.before.before.put_byte.ensures (sym (decimal_one _ c.before.before.before.before.if1.true))
 
 put-decimal-put-decimal-requires : (t : ℕ) → put-decimal-lts.Need-put-decimal-requires (
   put-byte-reads.Asked,
@@ -114,7 +114,7 @@ put-decimal-returns-2 : (t : ℕ) → put-decimal-lts.Need-returns-2 (
 ) (put-decimal-at t) put-decimal.Post
 put-decimal-returns-2 t c =
     put_as (put_then c.before.before.before.before.before.before.put-decimal.ensures c.before.before.put-byte2.ensures)
-    (sym (decimal-more _ c.before.before.before.before.before.before.before.before.if1.false))
+    (sym (decimal_more _ c.before.before.before.before.before.before.before.before.if1.false))
 
 pub +put-decimal-spec : {M : Type 1} → statement M
 +put-decimal-spec = close μ-put-decimal λ t. put-decimal-lts.spec (

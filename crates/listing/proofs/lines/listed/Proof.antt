@@ -1,5 +1,5 @@
 -- `listing::lines::listed` meets its contract: the first line, the edit lines and the last, one behind the other.
-use Rattle.listing.specs.Sizes.{listing-length}
+use Rattle.listing.specs.Sizes.{listing_length}
 use Rattle.grammar.specs.Listing.{listing}
 use Rattle.listing.specs.Writing.{put_all, put_then}
 use native.Mathlib.Omega.{arith}
@@ -28,7 +28,7 @@ returns c =
     let start = known.before in
     let good = start.well-formed.1.0 in (
       put_all (put_then first.put-ok.ensures (put_then lines.put-edits.ensures c.before.before.put-pace.ensures.0)),
-      listing-length _ start.args.counts start.args.edits.now start.args.report (search rules)
+      listing_length _ start.args.counts start.args.edits.now start.args.report (search rules)
           (record { moves = omega arith; records = omega arith; listed = omega arith })
           c.before.before.put-pace.ensures.1
           (λ i. omega (arith, known.shared-slice-known.given i)),

@@ -1,5 +1,5 @@
--- `listing::lines::put_edit` meets its contract: the parts of `editLine`, one behind the other.
-use Rattle.grammar.specs.Listing.{ascii, field, editLine}
+-- `listing::lines::put_edit` meets its contract: the parts of `edit_line`, one behind the other.
+use Rattle.grammar.specs.Listing.{ascii, field, edit_line}
 use Rattle.listing.specs.Writing.{put_then}
 use borrow.Author.Rules.{rules}
 use Rattle.listing.proofs.lines.put_edit.Statement.{statement}
@@ -21,7 +21,7 @@ same_length : tie.Need-same-length
 same_length c = search rules
 
 returns : tie.Need-returns
-unfolding ascii field editLine
+unfolding ascii field edit_line
 returns c =
     let symbol = c.before.before.before.before.before.before in
     let kind = symbol.before.before.before.before.before in

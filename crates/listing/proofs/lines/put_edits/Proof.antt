@@ -4,7 +4,7 @@ use borrow.Author.Rules.{rules}
 use Prim.Native.Nat.{◌-◌}
 use borrow.Author.Rules.{rules}
 use lib.ListN.{length}
-use Rattle.listing.proofs.Editing.{Editing, editing-begins, editing-goes, editing-ends}
+use Rattle.listing.proofs.Editing.{Editing, editing_begins, editing_goes, editing_ends}
 use Rattle.listing.proofs.lines.put_edits.Statement.{statement}
 use Rattle.listing.proofs.lines.put_edits.Tie as tie
 
@@ -15,7 +15,7 @@ abbrev decreases-loop : tie.decreases-loop
 decreases-loop out₀ at edits next₀ i₀ out next i = length edits - i
 
 loop-holds : tie.Need-loop-init invariant-loop decreases-loop
-loop-holds c = editing-begins _ _ _ c.before.before.requires
+loop-holds c = editing_begins _ _ _ c.before.before.requires
 
 sub-loop : tie.Need-overflow-sub-loop invariant-loop decreases-loop
 sub-loop c = search rules
@@ -57,13 +57,13 @@ loop-again : tie.Need-loop-preserved invariant-loop decreases-loop
 loop-again c =
     let put = c.before.before.put-edit in
     let turn = c.before.before.before.before.before.before.before in
-    editing-goes turn.before.loop.invariant turn.loop-test.true put.auto.0 put.ensures
+    editing_goes turn.before.loop.invariant turn.loop-test.true put.auto.0 put.ensures
 
 same_length : tie.Need-same-length invariant-loop decreases-loop
 same_length c = c.before.loop.invariant.same
 
 returns : tie.Need-returns invariant-loop decreases-loop
-returns c = editing-ends c.before.loop.invariant c.loop-test.false
+returns c = editing_ends c.before.loop.invariant c.loop-test.false
 
 pub put-edits-spec : {M : Type 1} → statement M
 put-edits-spec =

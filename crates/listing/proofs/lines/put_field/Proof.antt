@@ -14,7 +14,7 @@ same_length : tie.Need-same-length
 same_length c = search rules
 
 returns : tie.Need-returns
-returns c = put_then c.before.before.before.before.before.before.put-text.ensures c.before.before.put-decimal.ensures
+returns c = put_then c.before.before.before.before.before.before.put_text.ensures c.before.before.put-decimal.ensures
 
 pub put-field-spec : {M : Type 1} → statement M
 put-field-spec = tie.close (tie.spec put-text-requires put-decimal-requires same_length returns)

@@ -1,6 +1,6 @@
--- `listing::lines::put_kind` meets its contract: the word is the one that `kindWord` picks.
+-- `listing::lines::put_kind` meets its contract: the word is the one that `kind_word` picks.
 use borrow.Author.Tests.{eq-eqb, ne_eqb}
-use Rattle.grammar.specs.Listing.{ascii, field, kindWord}
+use Rattle.grammar.specs.Listing.{ascii, field, kind_word}
 use borrow.Author.Rules.{rules}
 use Rattle.listing.proofs.lines.put_kind.Statement.{statement}
 use Rattle.listing.proofs.lines.put_kind.Tie as tie
@@ -15,7 +15,7 @@ same_length : tie.Need-same-length
 same_length c = search rules
 
 returns : tie.Need-returns
-unfolding ascii field kindWord
+unfolding ascii field kind_word
 returns c = simp (eq-eqb _ _ c.before.before.before.before.before.if1.true) c.before.before.put-field.ensures
 
 slice-aggregate-put-field-2 : tie.Need-slice-aggregate-put-field-2
@@ -28,7 +28,7 @@ same-length-2 : tie.Need-same-length-2
 same-length-2 c = search rules
 
 returns-2 : tie.Need-returns-2
-unfolding ascii field kindWord
+unfolding ascii field kind_word
 returns-2 c = simp (ne_eqb _ _ c.before.before.before.before.before.if1.false) c.before.before.put-field2.ensures
 
 pub put-kind-spec : {M : Type 1} → statement M

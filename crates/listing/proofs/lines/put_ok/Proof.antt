@@ -1,5 +1,5 @@
--- `listing::lines::put_ok` meets its contract: the parts of `okLine`, one behind the other.
-use Rattle.grammar.specs.Listing.{ascii, field, okLine}
+-- `listing::lines::put_ok` meets its contract: the parts of `ok_line`, one behind the other.
+use Rattle.grammar.specs.Listing.{ascii, field, ok_line}
 use Rattle.listing.specs.Writing.{put_then}
 use borrow.Author.Rules.{rules}
 use Rattle.listing.proofs.lines.put_ok.Statement.{statement}
@@ -36,7 +36,7 @@ same_length : tie.Need-same-length
 same_length c = search rules
 
 returns : tie.Need-returns
-unfolding ascii field okLine
+unfolding ascii field ok_line
 returns c =
     let rules = c.before.before.before.before.before.before in
     let edits = rules.before.before.before.before.before in

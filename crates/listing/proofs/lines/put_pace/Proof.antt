@@ -1,7 +1,7 @@
--- `listing::lines::put_pace` meets its contract: by the cases of `paceLine`.
+-- `listing::lines::put_pace` meets its contract: by the cases of `pace_line`.
 use mathlib.Core.Path.{sym, ap}
-use Rattle.grammar.specs.Listing.{ascii, field, paceLine}
-use Rattle.listing.specs.Sizes.{pace-length, pace-idle}
+use Rattle.grammar.specs.Listing.{ascii, field, pace_line}
+use Rattle.listing.specs.Sizes.{pace_length, pace_idle}
 use Rattle.listing.specs.Writing.{put_then, put_as}
 use native.Mathlib.Omega.{arith}
 use borrow.Author.Rules.{rules}
@@ -45,27 +45,27 @@ same_length : tie.Need-same-length
 same_length c = search rules
 
 returns : tie.Need-returns
-unfolding ascii field paceLine
+unfolding ascii field pace_line
 returns c =
     let idle = c.before.before.before.before.before.before in
     let told = idle.before.before.before.enum_told.given.1 in (
-      put_as (put_then idle.put-text.ensures c.before.before.put_byte.ensures) (ap (paceLine _ _) (sym told)),
-      pace-idle _ _ told,
+      put_as (put_then idle.put_text.ensures c.before.before.put_byte.ensures) (ap (pace_line _ _) (sym told)),
+      pace_idle _ _ told,
     )
 
 same-length-2 : tie.Need-same-length-2
 same-length-2 c = search rules
 
 returns-2 : tie.Need-returns-2
-unfolding ascii field paceLine
+unfolding ascii field pace_line
 returns-2 c =
     let ms = c.before.before.before.before.before.before in
     let cycles = ms.before.before.before.before.before in
     let known = cycles.before in
     let report = known.before.before.before.before.before.before.args.report in (
       put_as (put_then cycles.put-field.ensures (put_then ms.put-field2.ensures c.before.before.put-byte2.ensures))
-          (ap (paceLine _ _) (sym cycles.before.before.before.before.enum-told2.given.1)),
-      pace-length report.count report.sum report.pace
+          (ap (pace_line _ _) (sym cycles.before.before.before.before.enum-told2.given.1)),
+      pace_length report.count report.sum report.pace
           (omega (arith, known.struct_known.given.0)) (omega (arith, known.struct_known.given.1.0)),
     )
 

@@ -7,7 +7,7 @@ use native.Mathlib.Omega.{arith}
 use borrow.Author.Rules.{rules}
 use lib.ListN.{length, take}
 use Rattle.listing.specs.Answer.{Appends}
-use Rattle.listing.specs.Writing.{put-none, put-more, put-text}
+use Rattle.listing.specs.Writing.{put_none, put_more, put_text}
 use Rattle.listing.proofs.lines.put_text.Statement.{statement}
 use Rattle.listing.proofs.lines.put_text.Tie as tie
 
@@ -18,7 +18,7 @@ abbrev decreases-loop : tie.decreases-loop
 decreases-loop out₀ at text next₀ i₀ out next i = length text - i
 
 loop-holds : tie.Need-loop-init invariant-loop decreases-loop
-loop-holds c = (omega arith, refl, put-none _ _ c.before.before.requires)
+loop-holds c = (omega arith, refl, put_none _ _ c.before.before.requires)
 
 shared-slice-read-put-byte : tie.Need-shared-slice-read-put-byte invariant-loop decreases-loop
 shared-slice-read-put-byte c = search rules
@@ -37,13 +37,13 @@ loop-again c =
     let put = c.before.before.put_byte in
     let turn = c.before.before.before.before.before in
     let inv = turn.before.loop.invariant in
-    (omega arith, put.auto.0 ∙ inv.1, put-more _ inv.2 turn.loop-test.true put.ensures)
+    (omega arith, put.auto.0 ∙ inv.1, put_more _ inv.2 turn.loop-test.true put.ensures)
 
 same_length : tie.Need-same-length invariant-loop decreases-loop
 same_length c = c.before.loop.invariant.1
 
 returns : tie.Need-returns invariant-loop decreases-loop
-returns c = put-text c.before.loop.invariant.2 c.loop-test.false
+returns c = put_text c.before.loop.invariant.2 c.loop-test.false
 
 pub put-text-spec : {M : Type 1} → statement M
 put-text-spec =

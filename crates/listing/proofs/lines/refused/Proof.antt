@@ -1,8 +1,8 @@
--- `listing::lines::refused` meets its contract: the parts of `refusedLine`, one behind the other.
+-- `listing::lines::refused` meets its contract: the parts of `refused_line`, one behind the other.
 use Prim.Native.Nat.{ℕ}
 use mathlib.Core.Path.{ap}
 use mathlib.Core.List.{◌++◌}
-use Rattle.grammar.specs.Listing.{ascii, field, refusedLine, newline}
+use Rattle.grammar.specs.Listing.{ascii, field, refused_line, newline}
 use Rattle.listing.specs.Writing.{put_then, put_as, put_all}
 use borrow.Author.Rules.{rules}
 use Rattle.listing.proofs.lines.refused.Statement.{statement}
@@ -27,7 +27,7 @@ same_length : tie.Need-same-length
 same_length c = search rules
 
 returns : tie.Need-returns
-unfolding ascii field refusedLine
+unfolding ascii field refused_line
 returns c =
     let word = c.before.before.before.before.before.before in
     put_all

@@ -1,7 +1,7 @@
--- `mark_lines::lines::listed` meets its contract: the lines of the marks, and the last behind them (`putting-last`).
+-- `mark_lines::lines::listed` meets its contract: the lines of the marks, and the last behind them (`putting_last`).
 use native.Mathlib.Omega.{arith}
-use Rattle.mark_lines.specs.Sizes.{listing-length}
-use Rattle.mark_lines.proofs.Putting.{putting-last}
+use Rattle.mark_lines.specs.Sizes.{listing_length}
+use Rattle.mark_lines.proofs.Putting.{putting_last}
 use borrow.Author.Rules.{rules}
 use Rattle.mark_lines.proofs.lines.listed.Statement.{statement}
 use Rattle.mark_lines.proofs.lines.listed.Tie as tie
@@ -27,9 +27,9 @@ returns c =
     let at-log = at-ticks.before in
     let at_words = at-log.before in
     let start = at_words.before in (
-      putting-last start.args.words.now start.args.log.now start.args.ticks.now at-put-marks.put-marks.ensures
+      putting_last start.args.words.now start.args.log.now start.args.ticks.now at-put-marks.put-marks.ensures
           at-added-in.added-in.ensures at-put-last.put_last.ensures,
-      listing-length start.args.log.now start.args.ticks.now (λ i. omega (arith, at-log.shared-slice-known2.given i))
+      listing_length start.args.log.now start.args.ticks.now (λ i. omega (arith, at-log.shared-slice-known2.given i))
           (λ i. omega (arith, at-ticks.shared-slice-known3.given i)) start.args.words.now
           (λ i. omega (arith, at_words.shared-slice-known.given i)) (omega arith),
     )

@@ -1,6 +1,6 @@
--- `mark_lines::lines::put_last` meets its contract: the parts of `marksLine`, one behind the other.
+-- `mark_lines::lines::put_last` meets its contract: the parts of `marks_line`, one behind the other.
 use Rattle.grammar.specs.Listing.{ascii, field}
-use Rattle.grammar.specs.MarkLines.{marksLine}
+use Rattle.grammar.specs.MarkLines.{marks_line}
 use Rattle.listing.specs.Writing.{put_then}
 use borrow.Author.Rules.{rules}
 use Rattle.mark_lines.proofs.lines.put_last.Statement.{statement}
@@ -25,7 +25,7 @@ same_length : tie.Need-same-length
 same_length c = search rules
 
 returns : tie.Need-returns
-unfolding ascii field marksLine
+unfolding ascii field marks_line
 returns c =
     let at-put-byte = c.before.before in
     let at-put-field2 = at-put-byte.before.before.before.before in

@@ -2,9 +2,9 @@
 use native.Mathlib.Omega.{arith}
 use mathlib.Core.Path.{sym, ap, ◌∙◌}
 use Rattle.grammar.specs.Listing.{ascii, field}
-use Rattle.grammar.specs.MarkLines.{markLine}
+use Rattle.grammar.specs.MarkLines.{mark_line}
 use Rattle.listing.specs.Writing.{put_then, put_as}
-use Rattle.mark_lines.specs.Told.{mark-added, mark-kept, mark_of}
+use Rattle.mark_lines.specs.Told.{mark_added, mark_kept, mark_of}
 use borrow.Author.Rules.{rules}
 use Rattle.mark_lines.proofs.lines.put_mark.Statement.{statement}
 use Rattle.mark_lines.proofs.lines.put_mark.Tie as tie
@@ -25,13 +25,13 @@ same_length : tie.Need-same-length
 same_length c = search rules
 
 returns : tie.Need-returns
-unfolding ascii field markLine
+unfolding ascii field mark_line
 returns c =
     let at-put-byte = c.before.before in
     let at-put-field = at-put-byte.before.before.before.before in
     let at-if1 = at-put-field.before.before.before in
     put_as (put_then at-put-field.put-field.ensures at-put-byte.put_byte.ensures)
-    (ap (markLine _) (sym (mark-added _ _ at-if1.if1.true)))
+    (ap (mark_line _) (sym (mark_added _ _ at-if1.if1.true)))
 
 wide-requires : tie.Need-wide-requires
 wide-requires c κs = search rules
@@ -83,7 +83,7 @@ same-length-2 : tie.Need-same-length-2
 same-length-2 c = search rules
 
 returns-2 : tie.Need-returns-2
-unfolding ascii field markLine
+unfolding ascii field mark_line
 returns-2 c =
     let at-put-byte2 = c.before.before in
     let at-put-field3 = at-put-byte2.before.before.before.before in
@@ -92,10 +92,10 @@ returns-2 c =
     let at-if1 = at_wide.before in
     let start = at-if1.before.before.before.before in
     let place = at_wide.wide.ensures.0 in
-    let kept = mark-kept start.args.log.now at_wide.wide.result (omega (arith, at-if1.if1.false, place)) in
+    let kept = mark_kept start.args.log.now at_wide.wide.result (omega (arith, at-if1.if1.false, place)) in
     put_as
     (put_then at-put-field2.put-field2.ensures (put_then at-put-field3.put-field3.ensures at-put-byte2.put-byte2.ensures))
-    (ap (markLine _) (sym kept ∙ ap (mark_of _) place))
+    (ap (mark_line _) (sym kept ∙ ap (mark_of _) place))
 
 pub put-mark-spec : {M : Type 1} → statement M
 put-mark-spec =

@@ -3,7 +3,7 @@
 use borrow.Author.Rules.{rules}
 use Prim.Native.Nat.{◌-◌}
 use lib.ListN.{length}
-use Rattle.mark_lines.proofs.Putting.{Putting, putting-begins, putting-goes, putting-ends}
+use Rattle.mark_lines.proofs.Putting.{Putting, putting_begins, putting_goes, putting_ends}
 use Rattle.mark_lines.proofs.lines.put_marks.Statement.{statement}
 use Rattle.mark_lines.proofs.lines.put_marks.Tie as tie
 
@@ -14,7 +14,7 @@ abbrev decreases-loop : tie.decreases-loop
 decreases-loop out₀ words log ticks next₀ i₀ out next i = length words - i
 
 loop-holds : tie.Need-loop-init invariant-loop decreases-loop
-loop-holds c = putting-begins _ _ _ _
+loop-holds c = putting_begins _ _ _ _
 
 mul-put-mark : tie.Need-overflow-mul-put-mark invariant-loop decreases-loop
 mul-put-mark c = search rules
@@ -40,13 +40,13 @@ loop-again c =
     let at-put-mark = c.before.before in
     let at-loop-test = at-put-mark.before.before.before in
     let at-loop = at-loop-test.before in
-    putting-goes at-loop.loop.invariant at-loop-test.loop-test.true at-put-mark.put-mark.auto.0 at-put-mark.put-mark.ensures
+    putting_goes at-loop.loop.invariant at-loop-test.loop-test.true at-put-mark.put-mark.auto.0 at-put-mark.put-mark.ensures
 
 same_length : tie.Need-same-length invariant-loop decreases-loop
 same_length c = c.before.loop.invariant.same
 
 returns : tie.Need-returns invariant-loop decreases-loop
-returns c = putting-ends c.before.loop.invariant c.loop-test.false
+returns c = putting_ends c.before.loop.invariant c.loop-test.false
 
 pub put-marks-spec : {M : Type 1} → statement M
 put-marks-spec =

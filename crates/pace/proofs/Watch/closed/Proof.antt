@@ -1,6 +1,6 @@
--- `pace::Watch::closed` meets its contract: the struct that it makes is `closedBy`'s of an open cycle.
+-- `pace::Watch::closed` meets its contract: the struct that it makes is `closed_by`'s of an open cycle.
 use Rattle.std.proofs.Common.{rules}
-use Rattle.pace.proofs.Passing.{closed-begun}
+use Rattle.pace.proofs.Passing.{closed_begun}
 use Rattle.pace.proofs.Watch.closed.Statement.{statement}
 use Rattle.pace.proofs.Watch.closed.Tie as tie
 
@@ -20,7 +20,7 @@ returns : tie.Need-returns
 returns c =
     let start = c.before.before.before in
     let time = c.before.time in
-    closed-begun start.args.tick time.result start.args.self start.requires.1 time.ensures
+    closed_begun start.args.tick time.result start.args.self start.requires.1 time.ensures
 
 pub closed-spec : {M : Type 1} → statement M
 closed-spec = tie.close (tie.spec add-self time-requires cast-self add-self-2 returns)

@@ -3,8 +3,8 @@ use borrow.Author.Rules.{rules}
 use mathlib.Core.Path.{ap, ◌∙◌}
 use lib.ListN.{replicate}
 use native.Mathlib.Nat.{sub-zero}
-use Rattle.verdict.specs.Sets.{sets-asked, sets-firsts}
-use Rattle.verdict.specs.Filling.{filling-begins}
+use Rattle.verdict.specs.Sets.{sets_asked, sets_firsts}
+use Rattle.verdict.specs.Filling.{filling_begins}
 use Rattle.verdict.proofs.rows.fill.Statement.{statement}
 use Rattle.verdict.proofs.rows.fill.Tie as tie
 
@@ -34,7 +34,7 @@ rule-firsts-requires c κs =
     let start = c.before.before.before.before.before.before.before.before in
     let ready = start.requires.0 in
     let sets = start.requires.1.0 in
-    (sets-asked ready sets, (sets-firsts ready sets, c.rule-firsts-arg3.given.2))
+    (sets_asked ready sets, (sets_firsts ready sets, c.rule-firsts-arg3.given.2))
 
 sub-clear-words : tie.Need-overflow-sub-clear-words
 sub-clear-words c = search rules
@@ -57,7 +57,7 @@ write-rows-requires c κs =
     let zeros = cleared.clear-words.ensures ∙ ap (λ n. replicate n 0) (sub-zero _ ∙ cleared.before.clear-words-arg.given.2) in
     let wide = called.rule-firsts.auto.1.1.1.1.0 ∙ called.before.rule-firsts-arg3.given.2 in (
       start.requires.0,
-      filling-begins start.args.sides.now start.args.rows.now start.requires.0.shaped sizes.0 sizes.1 wide
+      filling_begins start.args.sides.now start.args.rows.now start.requires.0.shaped sizes.0 sizes.1 wide
           called.rule-firsts.ensures zeros,
     )
 

@@ -4,13 +4,13 @@ use native.Mathlib.Omega.{arith}
 use Prim.Native.Nat.{◌-◌, ◌<◌}
 use mathlib.Core.Path.{sym, ◌∙◌}
 use lib.ListN.{length-set}
-use Rattle.grammar.specs.Words.{rightSide}
-use Rattle.verdict.specs.Rows.{RowTo, row-begins, row_goes, row_ends, row_room}
+use Rattle.grammar.specs.Words.{right_side}
+use Rattle.verdict.specs.Rows.{RowTo, row_begins, row_goes, row_ends, row_room}
 use Rattle.verdict.proofs.rows.write_row.Statement.{statement}
 use Rattle.verdict.proofs.rows.write_row.Tie as tie
 
 abbrev invariant-loop : tie.invariant-loop
-invariant-loop words places p link row₀ size right₀ i₀ row right i = RowTo (rightSide words p) link i row right
+invariant-loop words places p link row₀ size right₀ i₀ row right i = RowTo (right_side words p) link i row right
 
 abbrev decreases-loop : tie.decreases-loop
 decreases-loop words places p link row₀ size right₀ i₀ row right i = size - i
@@ -35,7 +35,7 @@ loop-holds : tie.Need-loop-init invariant-loop decreases-loop
 loop-holds c =
     let start = c.before.before.before.before in
     let size = c.type_size.ensures.is in
-    row-begins start.args.row.now start.requires.1.1 size
+    row_begins start.args.row.now start.requires.1.1 size
 
 sub-symbol-at : tie.Need-overflow-sub-symbol-at invariant-loop decreases-loop
 sub-symbol-at c = search rules
@@ -58,10 +58,10 @@ mul_right : tie.Need-overflow-mul-right invariant-loop decreases-loop
 mul_right c = omega (arith, row_room c.before.before.loop.invariant (low c.before))
 
 cast-right : tie.Need-overflow-cast-right invariant-loop decreases-loop
-cast-right c = omega (arith, c.symbol-at.ensures.small)
+cast-right c = omega (arith, c.symbol_at.ensures.small)
 
 add_right : tie.Need-overflow-add-right invariant-loop decreases-loop
-add_right c = omega (arith, row_room c.before.before.loop.invariant (low c.before), c.symbol-at.ensures.small)
+add_right c = omega (arith, row_room c.before.before.loop.invariant (low c.before), c.symbol_at.ensures.small)
 
 add-i : tie.Need-overflow-add-i invariant-loop decreases-loop
 add-i c = search rules
@@ -77,8 +77,8 @@ loop-again c =
     let shaped = start.requires.0.shaped in
     let counted = start.requires.1.0 in
     let size = type_size.ensures.is in
-    let symbol = c.symbol-at.ensures.is in
-    row_goes inv size type_size.ensures.small c.before.loop-test.true symbol c.symbol-at.ensures.small
+    let symbol = c.symbol_at.ensures.is in
+    row_goes inv size type_size.ensures.small c.before.loop-test.true symbol c.symbol_at.ensures.small
 
 same_length : tie.Need-same-length invariant-loop decreases-loop
 same_length c = c.before.loop.invariant.sized ∙ sym c.before.before.before.before.before.before.requires.1.1
