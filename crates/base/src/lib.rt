@@ -1,4 +1,6 @@
 // What every crate needs and none is about: numbers of other widths, little endian numbers, and buffers made zero.
+#![tactic(auto)]
+
 ghost use Rattle.std.specs.Prelude.{◌≡◌, ◌++◌, ◌+◌, ◌-◌, ◌*◌, ◌/◌, ◌%◌, ◌<◌, length, replicate, take};
 
 // ---- Numbers

@@ -1,5 +1,7 @@
 // The form of a block of the grammar file, which reader and writer share: document 01, "The grammar file". A block's number stands in
 // its first two bytes.
+#![tactic(auto)]
+
 ghost use Rattle.std.specs.Prelude.{◌≡◌, ◌+◌, ◌*◌, ◌%◌, ◌≤◌, ◌<◌, length};
 ghost use Rattle.grammar.specs.File.{weighted_sum};
 

@@ -1,4 +1,6 @@
 // A correction: the least r, then the least i, with its deletes, drops and inserts. Document 01, "Moves", and request (ii) of 02.
+#![tactic(auto)]
+
 ghost use Rattle.std.specs.Prelude.{◌≡◌, ◌+◌, ◌-◌, ◌*◌, ◌≤◌, ◌<◌, ◌^◌, length, get_or};
 ghost use Rattle.grammar.specs.Theory.Tables.{sized_of};
 ghost use Rattle.moves.specs.Pile.{pile};

@@ -3,6 +3,8 @@
 // nonterminals whose cost fell, and only the rules that mention one of them are visited again. What a nonterminal is made of mostly has
 // higher numbers, so the greatest is taken first. The sum of the costs falls with each that goes on the list, and is the measure. The lowest
 // of the rules that reach a cost is noted along with it.
+#![tactic(auto)]
+
 ghost use Rattle.std.specs.Prelude.{◌≡◌, ◌+◌, ◌*◌, ◌<◌, true};
 ghost use Rattle.sets.specs.Bits.{member};
 ghost use Rattle.grammar.specs.Grammar.{RuleOf};

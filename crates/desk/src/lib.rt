@@ -1,4 +1,6 @@
 // The setup desk: document 02, request (iii), and refusal 23.
+#![tactic(auto)]
+
 ghost use Rattle.std.specs.Prelude.{◌≡◌, ℕ, ◌+◌, ◌≤◌, drop, get_or, length, take};
 ghost use Rattle.base.specs.Written.{written};
 ghost use Rattle.grammar.specs.Desk.{DeskAnswer};

@@ -1,5 +1,7 @@
 // The functions of the static library: reading, writing, checking, pricing, parsing, marking and pacing for callers that know numbers and
 // slices alone. None asks for anything beforehand. `include/odhrashup.h` declares them.
+#![tactic(auto)]
+
 ghost use Rattle.std.specs.Prelude.{◌≡◌, length, replicate, set};
 ghost use Rattle.exports.specs.Status.{
   CheckedAs,

@@ -1,4 +1,6 @@
 // The reader of grammar files: document 01, "The grammar file", and refusals 1 to 4.
+#![tactic(auto)]
+
 ghost use Rattle.std.specs.Prelude.{◌≡◌, ◌+◌, ◌*◌, ◌≤◌, ◌<◌, length};
 ghost use Rattle.base.specs.Telling.{Tells};
 ghost use Rattle.grammar.specs.File.{

@@ -1,6 +1,8 @@
 // FIRST of each nonterminal and of each right side, as masks of tokens: exactly the sets by derivations.
 // For the nonterminals each rule is visited once, and then a list has those whose set must be passed on (request (v)). For both a
 // right side is walked from its front, and no further than to its first symbol that cannot be empty.
+#![tactic(auto)]
+
 ghost use Rattle.std.specs.Prelude.{◌≡◌, [], ◌∷◌, ◌<◌, length};
 ghost use Rattle.grammar.specs.Words.{right_side, rule_count};
 ghost use Rattle.base.specs.Blank.{Blank};

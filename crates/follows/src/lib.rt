@@ -1,6 +1,8 @@
 // FOLLOW of each nonterminal over START END, as masks of tokens: exactly the sets by derivations, where every nonterminal
 // is reachable. END is in FOLLOW(START). Each rule is visited once, and then a list has the nonterminals whose set must be passed on
 // (request (v)).
+#![tactic(auto)]
+
 ghost use Rattle.std.specs.Prelude.{◌≡◌, true, ◌<◌, length};
 ghost use Rattle.grammar.specs.Words.{rule_count};
 ghost use Rattle.base.specs.Telling.{Tells};

@@ -1,4 +1,6 @@
 // The answers that documents 01 and 02 name. What they mean stands in specs/, in the documents' order and words.
+#![tactic(auto)]
+
 ghost use Rattle.std.specs.Prelude.{◌≡◌};
 ghost use Rattle.grammar.specs.Refusals.{number_of};
 

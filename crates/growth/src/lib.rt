@@ -1,5 +1,7 @@
 // Sets that only grow: one to which members are added (specs/Added.antt), and all along a list until nothing changes
 // (specs/Closing.antt, specs/Along.antt).
+#![tactic(auto)]
+
 ghost use Rattle.std.specs.Prelude.{◌≡◌, ◌<◌, length};
 ghost use Rattle.growth.specs.Added.{Added};
 ghost use Rattle.growth.specs.Along.{Reached, Spent};

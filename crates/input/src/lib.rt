@@ -1,5 +1,7 @@
 // Parts of standard input, and lines for standard error. A read that fails is told apart from the end, so that no program takes one for
 // the other.
+#![tactic(auto)]
+
 ghost use Rattle.std.specs.Prelude.{◌≡◌, length};
 ghost use Rattle.input.specs.Parts.{PartFits, part_of};
 

@@ -1,5 +1,7 @@
 // From the bytes of standard input to the bytes of the listing: document 01, "The printed listing", whole. Only the reads and
 // the writes of the program are outside.
+#![tactic(auto)]
+
 ghost use Rattle.std.specs.Prelude.{◌≤◌, length};
 ghost use Rattle.listing.specs.Leads.{Kept};
 ghost use Rattle.listing.specs.Answer.{Appends};

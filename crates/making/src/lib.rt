@@ -1,5 +1,7 @@
 // The program `write_grammar` but for its name: document 02, request (i). It reads a text of decimal numbers from standard input to its
 // end and writes the grammar file of these words. A read that fails is never taken for the end: nothing is written then.
+#![tactic(auto)]
+
 ghost use Rattle.std.specs.Prelude.{◌≡◌, ◌≤◌, min, length, take};
 ghost use Rattle.input.specs.Parts.{PartFits};
 ghost use Rattle.making.specs.Answer.{FileMade, Knows, Makes, Reaches, TextRead};

@@ -1,5 +1,7 @@
 // From the bytes of standard input to the lines of print_marks: document 02, request (iv). The input is the printing program's, and only
 // the reads and the writes of the program are outside.
+#![tactic(auto)]
+
 ghost use Rattle.std.specs.Prelude.{◌≡◌, ℕ, ◌≤◌, ◌<◌, get_or, length, replicate};
 ghost use Rattle.listing.specs.Leads.{Kept};
 ghost use Rattle.mark_lines.specs.Shown.{MarksShown, MarksShownWhole};

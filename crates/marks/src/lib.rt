@@ -1,5 +1,7 @@
 // The repaired log in marks alone: request (iv) of document 02, and refusal 15. It runs the parse, and then walks over the edit records:
 // kept tokens are copied, and for each inserted symbol the string of its cheapest rules is written.
+#![tactic(auto)]
+
 ghost use Rattle.std.specs.Prelude.{true, ◌≡◌, ◌≤◌, ◌<◌, length};
 ghost use Rattle.base.specs.Telling.{Tells};
 ghost use Rattle.grammar.specs.Marks.{Marks, MarksAnswer};

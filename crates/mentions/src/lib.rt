@@ -1,6 +1,8 @@
 // Which rules mention a nonterminal, and which nonterminals the rules of one mention: made once for the whole check, so that a set or a
 // cost that changes sends it to those rules alone. A set of rules is a row of bits, 64 in a word; word w of row r stands at 65 w + r, so that
 // 64 rules take 65 words and 256 take 260.
+#![tactic(auto)]
+
 ghost use Rattle.std.specs.Prelude.{◌≡◌, ◌<◌};
 ghost use Rattle.grammar.specs.Words.{rule_count};
 ghost use Rattle.shape.specs.Ready.{Ready};

@@ -1,5 +1,7 @@
 // The state of a run and the moves that change it, the parser's stack, and what the tables say of its symbols. The state is numbers
 // only, by value; the stack is a slice beside it, whose top is its last cell in use: `pile` of specs/Pile.antt.
+#![tactic(auto)]
+
 ghost use Rattle.std.specs.Prelude.{◌≡◌, Bool, ◌+◌, ◌-◌, ◌*◌, ◌/◌, ◌%◌, ◌≤◌, ◌<◌, ◌^◌, length, get_or};
 ghost use Rattle.moves.specs.States.{
   CanCount,

@@ -1,4 +1,6 @@
 // The printing program: document 01, "The printed listing".
+#![tactic(auto)]
+
 fn main() {
     printing::run();
 }

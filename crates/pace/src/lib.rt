@@ -1,5 +1,7 @@
 // The pace report: document 01, "Pace", and refusal 16 of 02. The cycles are found in one pass over the log's places, with a cursor in the
 // edit records, whose places never fall.
+#![tactic(auto)]
+
 ghost use Rattle.std.specs.Prelude.{◌≡◌, ◌+◌, ◌*◌, ◌<◌, ◌≤◌, true, ◌||◌, length, ◌==◌};
 ghost use Rattle.grammar.specs.Words.{Shaped};
 ghost use Rattle.grammar.specs.Pace.{Reported, pace_of, wrapped};

@@ -1,5 +1,7 @@
 // The repairing parser: document 01, "Moves", and refusals 11 and 12. The stack, the edits and the rules are slices beside a
 // state of numbers; the tables are those of the grammar check. The inner functions take the words for their contracts alone.
+#![tactic(auto)]
+
 ghost use Rattle.std.specs.Prelude.{true, ◌≡◌, ◌+◌, ◌-◌, ◌*◌, ◌≤◌, ◌<◌, min, max, length};
 ghost use Rattle.parser.specs.Lookup.{CanLookUp, RuleFor};
 ghost use Rattle.parser.specs.Expanding.{CanExpand, ExpandedOf};

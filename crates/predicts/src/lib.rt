@@ -1,4 +1,6 @@
 // The predict test, refusal 9: no two rules of one nonterminal share a predict token.
+#![tactic(auto)]
+
 ghost use Rattle.std.specs.Prelude.{◌<◌};
 ghost use Rattle.grammar.specs.Words.{rule_count};
 ghost use Rattle.grammar.specs.Derivation.{NoneShared};

@@ -1,6 +1,8 @@
 // The programs that print but for their names: document 01, "The printed listing", and document 02, request (iv). Each reads standard
 // input to its end, keeps the bytes that decide what it prints, and writes that. A read that fails is never taken for the end: nothing is
 // printed then.
+#![tactic(auto)]
+
 ghost use Rattle.std.specs.Prelude.{◌≤◌, length};
 ghost use Rattle.printing.specs.Input.{InputFits};
 

@@ -1,6 +1,8 @@
 // Sets of numbers below 64 as the bits of a u64. What they hold is `member` of specs/Bits.antt; specs/Laws.antt says of
 // `with` and `union` what they hold, and that they never make the number smaller.
 // Each of these compiles to an instruction or two.
+#![tactic(auto)]
+
 ghost use Rattle.std.specs.Prelude.{◌≡◌, true, ◌≤◌, ◌<◌};
 ghost use Rattle.sets.specs.Bits.{member};
 ghost use Rattle.base.specs.Telling.{Tells};

@@ -1,5 +1,7 @@
 // The shape of grammar words, where each rule stands, and what stands there. Refusal 5 is given exactly where the words
 // do not have the shape.
+#![tactic(auto)]
+
 ghost use Rattle.std.specs.Prelude.{◌≡◌, ◌+◌, ◌*◌, ◌≤◌, ◌<◌, length, get_or};
 ghost use Rattle.base.specs.Telling.{Tells};
 ghost use Rattle.grammar.specs.Words.{

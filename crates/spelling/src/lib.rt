@@ -1,5 +1,7 @@
 // The words that a text of decimal numbers spells: from the bytes that the setup desk edits to grammar words. A text comes in parts of any
 // length, and a part may end within a number. specs/Text.antt says what a text spells.
+#![tactic(auto)]
+
 ghost use Rattle.std.specs.Prelude.{◌≡◌, ◌∷◌, [], ◌+◌, set};
 ghost use Rattle.base.specs.Telling.{Tells};
 ghost use Rattle.spelling.specs.Text.{Blank, Digit};

@@ -1,6 +1,8 @@
 // The string of a nonterminal's cheapest rules: request (iv) of document 02. A table has the right side of each nonterminal's cheapest
 // rule in one word; from it a table of lengths is made, and any string is spelled. What the table spells, and that it is the string of
 // the definitions, stands in specs/.
+#![tactic(auto)]
+
 ghost use Rattle.std.specs.Prelude.{◌≡◌, ◌<◌, ◌≤◌, length};
 ghost use Rattle.grammar.specs.Words.{nonterminal_count};
 ghost use Rattle.grammar.specs.Theory.Closed.{total};

@@ -1,4 +1,6 @@
 // What the test programs do with lent buffers: old content before a call, and one number for the content after it.
+#![tactic(auto)]
+
 ghost use Rattle.std.specs.Prelude.{◌≡◌, ◌≤◌, length, replicate};
 ghost use Rattle.test_buffers.specs.Digest.{digest_of};
 

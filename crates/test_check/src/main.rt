@@ -4,6 +4,8 @@
 //     0 PLACE WORD    the word at PLACE becomes WORD (at first all words are 0)
 //     1 SIZE CASE     the first SIZE words are checked, and the answer is printed as that of CASE
 // expected.py makes the input, and what must be printed, from document 01 alone.
+#![tactic(auto)]
+
 use verdict::Checked;
 
 fn main() {

@@ -4,6 +4,8 @@
 //     0 PLACE WORD 0        the word at PLACE becomes WORD (at first all words are 0)
 //     1 SIZE COSTS RULES    the first SIZE words are handed in, with so many words for costs and rules, all of old content
 // compare/store makes the input, and what must be printed, by the independent implementation.
+#![tactic(auto)]
+
 use desk::Desk;
 
 fn main() {

@@ -1,5 +1,7 @@
 // Runs many stored inputs of print_marks and prints their lines one behind the other. Standard input holds for each its length (four bytes,
 // little endian) and its bytes.
+#![tactic(auto)]
+
 ghost use Rattle.std.specs.Prelude.{◌≤◌, ◌<◌, length};
 
 // What stands behind so many bytes of an input decides nothing.

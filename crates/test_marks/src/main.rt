@@ -6,6 +6,8 @@
 //     2 WORDS TOKENS E R M    so many words and tokens are handed in, with E words for edits, R for rules and M for the result, all of
 //                             old content
 // compare/store makes the input, and what must be printed, by the independent implementation.
+#![tactic(auto)]
+
 use marks::Marking;
 
 fn main() {

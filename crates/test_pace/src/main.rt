@@ -6,6 +6,8 @@
 //     2 WORDS TOKENS TICKS E R     the report of so many words, tokens and ticks, with E words for edits and R for rules, all of
 //                                  old content
 // README.md says where the input and the expected answers come from.
+#![tactic(auto)]
+
 use grammar::{Pace, Report};
 use pace::Paced;
 

@@ -5,6 +5,8 @@
 //     1 PLACE TOKEN 0 0     the log's token at PLACE becomes TOKEN
 //     2 WORDS TOKENS E R    so many words and tokens are parsed, with E words for edits and R for rules, all of old content
 // README.md says where the input and the expected answers come from.
+#![tactic(auto)]
+
 use parser::Parsing;
 
 fn main() {

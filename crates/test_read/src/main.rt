@@ -5,6 +5,8 @@
 //     1 SIZE ROOM     the file's first SIZE bytes are read into a buffer of ROOM words, all of old content
 //     2 GROUP 0       a group of cases begins
 // expected.py makes the input, and what must be printed, from document 01 alone.
+#![tactic(auto)]
+
 use file::Reading;
 
 fn main() {

@@ -1,5 +1,7 @@
 // Runs the pace report on the bench examples of document 01 that have a log, with their ticks, on examples of equal marks, both marks 0 and
 // a missing tick, and on those of requests (vi) and (viii). It prints each answer; README.md says where the expected ones come from.
+#![tactic(auto)]
+
 use grammar::{Pace, Report};
 use pace::Paced;
 

@@ -2,6 +2,8 @@
 //
 // A text is its length, a little endian number of four bytes, and so many bytes. It is handed over in parts of 1, 2, 3, .. 64 bytes, and
 // then of 1 byte again, so that parts that cut a number are met.
+#![tactic(auto)]
+
 ghost use Rattle.std.specs.Prelude.{min, ◌≡◌};
 
 use spelling::{Spelled, Spelling};

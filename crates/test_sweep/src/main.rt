@@ -1,5 +1,7 @@
 // Runs many stored inputs of the printing program and prints their listings one behind the other. Standard input holds for each
 // its length (four bytes, little endian) and its bytes; README.md says where inputs and expected listings come from.
+#![tactic(auto)]
+
 ghost use Rattle.std.specs.Prelude.{◌≤◌, ◌<◌, length};
 
 // What stands behind so many bytes of an input decides nothing.

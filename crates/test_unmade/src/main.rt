@@ -1,4 +1,6 @@
 // The program that writes grammar files, on a text with a word that is no number: it must print nothing to standard output.
+#![tactic(auto)]
+
 fn main() {
     making::run();
     io::write_all(1, b"nothing else was printed\n");

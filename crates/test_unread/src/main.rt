@@ -1,4 +1,6 @@
 // The printing program, where standard input cannot be read: it must print nothing to standard output.
+#![tactic(auto)]
+
 fn main() {
     libc::close(0);
     printing::run();

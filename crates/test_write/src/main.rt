@@ -5,6 +5,8 @@
 //     1 COUNT ROOM    the first COUNT words are written into a buffer of ROOM bytes, all of old content; the bytes written are read
 //                     into a buffer of COUNT words, all of old content
 // compare/store makes the input, and what must be printed, by the independent implementation.
+#![tactic(auto)]
+
 ghost use Rattle.std.specs.Prelude.{◌+◌, ◌≤◌, ◌<◌, length};
 
 use file::Reading;

@@ -1,4 +1,6 @@
 // The grammar check: the verdict 5 to 9, and the tables that a parser needs.
+#![tactic(auto)]
+
 ghost use Rattle.std.specs.Prelude.{◌≡◌, true, ℕ, ◌<◌, length};
 ghost use Rattle.grammar.specs.Words.{Shaped, nonterminal_count, terminal_count};
 ghost use Rattle.grammar.specs.Derivation.{NoneShared};

@@ -1,4 +1,6 @@
 // The writer of grammar files: document 02, request (i), and refusals 13, 16 and 14.
+#![tactic(auto)]
+
 ghost use Rattle.std.specs.Prelude.{◌≡◌, [], ◌∷◌, ◌+◌, ◌*◌, ◌≤◌, ◌<◌, min, drop, length, take};
 ghost use Rattle.base.specs.Telling.{Tells};
 ghost use Rattle.base.specs.Written.{written};
