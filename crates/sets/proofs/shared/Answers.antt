@@ -1,4 +1,4 @@
--- `sets::shared` meets its contract: a number that is not 0 has a bit, and the bits of `bit_and a b` are the common ones.
+-- A number that is not 0 has a bit, and the bits of `bit_and a b` are the common ones.
 use Prim.Native.Nat.{ℕ, ◌<◌, ◌^◌}
 use mathlib.Core.Bool.{not}
 use native.Mathlib.Omega.{arith}
@@ -8,9 +8,8 @@ use lib.Dec.{eqb}
 use lib.Bits.{bit_and, and_lt}
 use Rattle.sets.specs.Operations.{Shared}
 use Rattle.base.specs.Telling.{Tells}
+use Rattle.sets.proofs.shared.Goals as goal
 use Rattle.sets.specs.Laws.{some_member, shared_some, shared_none}
-use Rattle.sets.proofs.shared.Statement.{statement}
-use Rattle.sets.proofs.shared.Tie as tie
 
 tells : (a b : ℕ) → a < 2 ^ 64 → b < 2 ^ 64 → Tells (Shared a b) (not (eqb (bit_and a b) 0))
 tells a b ha hb =
@@ -21,8 +20,6 @@ tells a b ha hb =
       no = λ e both. shared_none a b (eqb-true (bit_and a b) 0 (not-false _ e)) both;
     }
 
-returns : tie.Need-returns
+pub returns : goal.returns
 returns c = tells _ _ (search rules) (search rules)
 
-pub shared-spec : {M : Type 1} → statement M
-shared-spec = tie.close (tie.spec returns)
