@@ -20,6 +20,8 @@ same_list_lem [] [] h = refl
 same_list_lem (x ∷ xs) (y ∷ ys) h =
     ap (λ z. z ∷ xs) (eqb→eq x y (left_of (eqb x y) (same_list xs ys) h))
     ∙ ap (λ l. y ∷ l) (same_list_lem xs ys (right_of_lem (eqb x y) (same_list xs ys) h))
+same_list_lem [] (y ∷ ys) h = elim h [ ]
+same_list_lem (x ∷ xs) [] h = elim h [ ]
 
 unfoldable pub edits_agree : Option (List Edit) → List Move → Bool
 unfolding same_list edits edit_words

@@ -127,6 +127,8 @@ module _ (c : Case) where
               reports = ReportsBy.unpaced;
             };
       }
+  agrees_gives (result told) (refused r) same k h = elim h [ ]
+  agrees_gives (refuses number) (given ms) same k h = elim h [ ]
 
   -- The model's test passes: the definitions give the case.
   passes_gives : T passes → Gives c
@@ -155,6 +157,7 @@ module _ (c : Case) where
             leaves_rules = refl;
           })
           k
+      go none e k = elim k [ ]
 
 -- ---- The theorem
 

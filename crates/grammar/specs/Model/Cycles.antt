@@ -50,6 +50,7 @@ kept_says (Move.expand q ∷ ms) p t h = Memᴰ.tail (kept_says ms p t h)
 kept_says (Move.drop X ∷ ms) p t h = Memᴰ.tail (kept_says ms p t h)
 kept_says (Move.delete q u ∷ ms) p t h = Memᴰ.tail (kept_says ms p t h)
 kept_says (Move.insert q X ∷ ms) p t h = Memᴰ.tail (kept_says ms p t h)
+kept_says [] p t h = elim h [ ]
 
 -- A match in front or behind.
 other : {A : Type 0} {p t : ℕ} {x : Move} {ms : List Move} → (Move.match p t ≡ x → ⊥) → (Kept ms p t → A) → Kept (x ∷ ms) p t → A
@@ -193,12 +194,12 @@ unfolding pairs_to
 pairs ps [] = []
 pairs ps (b ∷ qs) = pairs_to ps b ++ pairs ps qs
 
-pair_to : {ps : List ℕ} {a : ℕ} (b : ℕ) → Memᴰ a ps → Memᴰ (record { opened = a; closed = b }) (pairs_to ps b)
+pair_to : {a : ℕ} {ps : List ℕ} (b : ℕ) → Memᴰ a ps → Memᴰ (record { opened = a; closed = b }) (pairs_to ps b)
 unfolding pairs_to
 pair_to b (Memᴰ.head e) = Memᴰ.head (ap (λ x. record { opened = x; closed = b }) e)
 pair_to b (Memᴰ.tail m) = Memᴰ.tail (pair_to b m)
 
-pair : (ps : List ℕ) {qs : List ℕ} {a b : ℕ} → Memᴰ a ps → Memᴰ b qs → Memᴰ (record { opened = a; closed = b }) (pairs ps qs)
+pair : (ps : List ℕ) {a b : ℕ} {qs : List ℕ} → Memᴰ a ps → Memᴰ b qs → Memᴰ (record { opened = a; closed = b }) (pairs ps qs)
 unfolding pairs
 pair ps {a = a} m (Memᴰ.head {x = b} {xs = qs} e) =
     Memᴰ.append_left (pairs ps qs) (Memᴰ.cast (ap (λ x. record { opened = a; closed = x }) e) (pair_to b m))

@@ -26,6 +26,7 @@ begins_say null begin (X ∷ α) h =
     ⊎_elim Begins.here
     (λ k. Begins.past (left_of (null X) (begins null begin α) k) (begins_say null begin α (right_of_lem (null X) (begins null begin α) k)))
     (one_of (begin X) (null X && begins null begin α) h)
+begins_say null begin [] h = elim h [ ]
 
 pub say_begins : (null begin : ℕ → Bool) {α : List ℕ} → Begins (λ X. T (null X)) (λ X. T (begin X)) α → T (begins null begin α)
 unfolding begins

@@ -59,6 +59,7 @@ stands null begin e (X ∷ α) B h =
     let i = stands null begin e α B k in
     record { front = X ∷ i.front; rest = i.rest; joined = ap (λ l. X ∷ l) i.joined; next = i.next })
     (one_of (eqb X B && (begins null begin α || (every null α && e))) (behind null begin e α B) h)
+stands null begin e [] B h = elim h [ ]
 
 -- The other way: every member of the list is followed as the test says.
 followed : (null begin : ℕ → Bool) (e : Bool) (Behind : ℕ → Type 0) (E : Type 0) (β : List ℕ) → (E → T e)

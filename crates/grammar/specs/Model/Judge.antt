@@ -124,6 +124,7 @@ module _ (ws : List ℕ) (s : Shaped ws) where
   known_cost : (o : Option ℕ) → T (is_known o) → (c : ℕ) × (o ≡ some c)
   unfolding is_known
   known_cost (some c) h = (c, refl)
+  known_cost none h = elim h [ ]
 
   -- Where the table is ready, each nonterminal has its cost there.
   pub ready_cost : T (costs_ready ws) → (A : ℕ) → 64 ≤ A → A < 64 + nonterminal_count ws

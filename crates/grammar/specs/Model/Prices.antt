@@ -37,6 +37,8 @@ cost_of price table X = known (cost_by price table X)
 at_most_lem : (a b : Option ℕ) → T (at_most a b) → (x y : ℕ) × (a ≡ some x) × (b ≡ some y) × (x ≤ y)
 unfolding at_most
 at_most_lem (some a) (some b) h = (a, b, refl, refl, leb→le a b h)
+at_most_lem none b h = elim h [ ]
+at_most_lem (some a) none h = elim h [ ]
 
 module _ (price : ℕ → ℕ) (table : List (Option ℕ)) where
   pub cost_known : (X c : ℕ) → cost_by price table X ≡ some c → cost_of price table X ≡ c

@@ -42,6 +42,7 @@ passing f (r ∷ rs) h =
     let i = passing f rs k in
     record { number = suc i.number; left = i.left; right = i.right; rule = RuleAt.there i.rule; passes = i.passes })
     (one_of (f r.left r.right) (some_rule f rs) h)
+passing f [] h = elim h [ ]
 
 pub some_rule_lem : (f : ℕ → List ℕ → Bool) {rs : List Rule} {p A : ℕ} {β : List ℕ} → RuleAt rs p A β → T (f A β) → T (some_rule f rs)
 unfolding some_rule

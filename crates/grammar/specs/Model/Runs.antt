@@ -61,6 +61,7 @@ runs D L (suc n) s = by_end D (runs D L n) L s (is_empty s.stack && is_empty s.r
 is_empty_lem : (l : List ℕ) → T (is_empty l) → l ≡ []
 unfolding is_empty
 is_empty_lem [] h = refl
+is_empty_lem (_ ∷ _) h = elim h [ ]
 
 module _ {G : Grammar} (D : Tests) (d : Decided G D) (L : Limits) (rec : State → Option Done)
     (ok : (u : State) (f : Done) → rec u ≡ some f → Run G L u f.moves f.end) (s : State) where

@@ -8,12 +8,15 @@ use Rattle.grammar.specs.Derivation.{All}
 
 pub both : (a b : Bool) → T a → T b → T (a && b)
 both true b x y = y
+both false b x y = elim x [ ]
 
 pub left_of : (a b : Bool) → T (a && b) → T a
 left_of true b h = tt
+left_of false b h = elim h [ ]
 
 pub right_of_lem : (a b : Bool) → T (a && b) → T b
 right_of_lem true b h = h
+right_of_lem false b h = elim h [ ]
 
 pub one_of : (a b : Bool) → T (a || b) → T a ⊎ T b
 one_of true b h = inl tt
@@ -21,6 +24,7 @@ one_of false b h = inr h
 
 pub or_left : (a b : Bool) → T a → T (a || b)
 or_left true b h = tt
+or_left false b h = elim h [ ]
 
 pub or_right : (a b : Bool) → T b → T (a || b)
 or_right true b h = tt
@@ -53,8 +57,9 @@ pub holds_member : (l : List ℕ) (x : ℕ) → T (holds l x) → Memᴰ x l
 unfolding holds
 holds_member (y ∷ l) x h =
     ⊎_elim (λ e. Memᴰ.head (eqb→eq x y e)) (λ k. Memᴰ.tail (holds_member l x k)) (one_of (eqb x y) (holds l x) h)
+holds_member [] x h = elim h [ ]
 
-pub member_holds : {l : List ℕ} {x : ℕ} → Memᴰ x l → T (holds l x)
+pub member_holds : {x : ℕ} {l : List ℕ} → Memᴰ x l → T (holds l x)
 unfolding holds
 member_holds {x = x} (Memᴰ.head {x = y} {xs = l} e) = or_left (eqb x y) (holds l x) (equal_passes x y e)
 member_holds {x = x} (Memᴰ.tail {x = y} {xs = l} m) = or_right (eqb x y) (holds l x) (member_holds m)

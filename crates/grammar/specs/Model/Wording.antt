@@ -44,6 +44,7 @@ listed f a (suc n) p A β (RuleAt.there {p = q} i) =
       left = h.left ∙ ap (λ k. (f k).left) (omega arith);
       right = h.right ∙ ap (λ k. (f k).right) (omega arith);
     }
+listed f a zero p A β x' = elim x' [ ]
 
 lists : (f : ℕ → Rule) (a n p A : ℕ) (β : List ℕ) → Listed f a n p A β → RuleAt (map f (range a n)) p A β
 unfolding range

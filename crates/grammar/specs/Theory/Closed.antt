@@ -79,6 +79,7 @@ module _ (R : Rules) (Null Begin : ℕ → Type 0) (nulls : ClosedUp R Null) (fi
   closed_first (down {β = β} r d) b =
       ⊎_elim (λ f. Begins.here (firsts _ _ β r f)) (λ g. Begins.past (nulls _ _ β r g.0) g.1)
       (begins_append β (closed_first d b))
+  closed_first done b = elim b [ ]
 
 -- ---- FOLLOW, for the same token: `Behind X` says that the token is in FOLLOW of X.
 

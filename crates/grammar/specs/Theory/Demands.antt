@@ -6,7 +6,7 @@
 -- not apply, and `RunOf ws log edit_room rule_room ms none` that the run of the log made the moves ms and ended.
 use Rattle.std.specs.Prelude.{ℕ, ◌+◌, ◌*◌, ◌≤◌, ◌<◌, ◌≡◌, ◌↔◌, List, [], ◌∷◌, ◌++◌, length, get_or}
 use Rattle.std.proofs.Common.{sym, ap, subst, ◌∙◌}
-use Rattle.std.proofs.Math.Logic.{Iff·trans}
+use Rattle.std.proofs.Math.Logic.Iff as Iff
 use Rattle.std.proofs.Math.Option.{Option, none, some}
 use Rattle.grammar.specs.Words.{START, END, Shaped, nonterminal_count, rule_count, right_size, insert_cost}
 use Rattle.grammar.specs.Words.{opening, closing, tick_unit, restart_mark}
@@ -109,7 +109,7 @@ pub parser_answers : {ws log : List ℕ} {edit_room rule_room : ℕ} {a : Outcom
     → Answered a (Given no_more ws log edit_room rule_room) (Blank edit_room rule_room x y) (Lists edit_room rule_room x y)
 parser_answers p =
     record {
-      exactly = λ r. Iff·trans (Refused.answered_refused r p.answers) (Refused.parses_exactly p.parses r);
+      exactly = λ r. Iff.trans (Refused.answered_refused r p.answers) (Refused.parses_exactly p.parses r);
       zeros = λ r e. Refused.parses_zeros p.parses ((Refused.answered_refused r p.answers).0 e);
       holds = λ a e. lists p.parses (Refused.answered_given p.outcome (sym e ∙ p.answers));
     }
@@ -121,7 +121,7 @@ pub report_answers : {ws log ticks : List ℕ} {edit_room rule_room : ℕ} {a : 
     (λ given. Lists edit_room rule_room x y given.1)
 report_answers p =
     record {
-      exactly = λ r. Iff·trans (Refused.reports_refused r p.reports) (Refused.parses_exactly p.parses r);
+      exactly = λ r. Iff.trans (Refused.reports_refused r p.reports) (Refused.parses_exactly p.parses r);
       zeros = λ r e. Refused.parses_zeros p.parses ((Refused.reports_refused r p.reports).0 e);
       holds = λ a e. lists p.parses (Refused.reports_given p.reports e);
     }

@@ -165,12 +165,14 @@ module _ {R : Rules} where
   kept_there (Beside.same h b) (Memᴰ.tail k) = Memᴰ.tail (kept_there b k)
   kept_there (Beside.empty c b) (Memᴰ.head e) = absurd (let z : ◌≡◌ {A = ℕ} 0 1 = cc in omega arith)
   kept_there (Beside.empty c b) (Memᴰ.tail k) = Memᴰ.tail (kept_there b k)
+  kept_there Beside.nothing k = elim k [ ]
 
   pub kept_here : {ms ns : List Move} {p t : ℕ} → Beside R ms ns → Kept ns p t → Kept ms p t
   kept_here (Beside.same h b) (Memᴰ.head e) = Memᴰ.head e
   kept_here (Beside.same h b) (Memᴰ.tail k) = Memᴰ.tail (kept_here b k)
   kept_here (Beside.empty c b) (Memᴰ.head e) = absurd (let z : ◌≡◌ {A = ℕ} 0 1 = cc in omega arith)
   kept_here (Beside.empty c b) (Memᴰ.tail k) = Memᴰ.tail (kept_here b k)
+  kept_here Beside.nothing k = elim k [ ]
 
 -- The moves of a choice stand beside those that 01's rule makes.
 pub beside_made : {G : Grammar} {σ ρ : List ℕ} {x : Pick} (p k l : ℕ) → Choice G σ ρ x
@@ -201,6 +203,7 @@ module _ {R : Rules} (r : ℕ) where
   pops_drop (Popped.empty c a) (Memᴰ.tail m) = pops_drop a m
   pops_drop (Popped.missing n a) (Memᴰ.head e) = absurd (let z : ◌≡◌ {A = ℕ} 0 1 = cc in omega arith)
   pops_drop (Popped.missing n a) (Memᴰ.tail m) = pops_drop a m
+  pops_drop Popped.nothing m = elim m [ ]
 
   pops_insert : {q X : ℕ} {Xs : List ℕ} {ps : List Pop} → Popped R Xs ps → Memᴰ (Move.insert q X) (pops r ps)
       → CanBeEmpty R (X ∷ []) → ⊥
@@ -211,6 +214,7 @@ module _ {R : Rules} (r : ℕ) where
       let same : X ≡ Y = cc in
       n (subst (λ x. CanBeEmpty R (x ∷ [])) same d)
   pops_insert (Popped.missing n a) (Memᴰ.tail m) d = pops_insert a m d
+  pops_insert Popped.nothing m d = elim m [ ]
 
 -- Its r is in the log, what its symbols become is told, and it leaves a record.
 correction_by : {G : Grammar} {σ ρ : List ℕ} {j i : ℕ} {ps : List Pop} → Choice G σ ρ (correcting j i ps)

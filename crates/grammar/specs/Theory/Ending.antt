@@ -69,6 +69,7 @@ module _ (G : Grammar) (N R : ℕ) (good : Good G N R) (cost : ℕ → ℕ) (pri
             let behind = rest.first (omega (arith, rest.no_dearer)) in
             (behind.0, der_append G.rules (free_empty h (subst (SymbolCost G.rules G.price X) free x)) behind.1);
       }
+  part ListCost.nothing a m l k = elim m [ ]
 
   -- ---- Any number of steps: A stands below B
 

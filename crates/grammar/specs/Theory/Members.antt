@@ -8,6 +8,7 @@ use Rattle.grammar.specs.Derivation.{All}
 pub all_at : {P : ℕ → Type 0} {l : List ℕ} {x : ℕ} → All P l → Memᴰ x l → P x
 all_at {P} (All.also {x = y} h a) (Memᴰ.head e) = subst P (sym e) h
 all_at (All.also h a) (Memᴰ.tail m) = all_at a m
+all_at All.nothing m = elim m [ ]
 
 -- and so has what stands at a place.
 pub all_get : {P : ℕ → Type 0} {l : List ℕ} → All P l → (i : ℕ) → i < length l → P (get_or l i 0)

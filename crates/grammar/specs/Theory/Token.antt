@@ -91,13 +91,13 @@ module _ (G : Grammar) (N R : ℕ) (good : Good G N R) where
   two_picks c d i n = n (choice_determined G N R good c d i)
 
   -- The moves for a token are determined.
-  pub token_determined : {t : ℕ} {σ τ υ ρ : List ℕ} {xs ys : List Pick} → Eaten G t ρ σ xs τ → Eaten G t ρ σ ys υ → Terminal t
+  pub token_determined : {t : ℕ} {ρ σ τ υ : List ℕ} {xs ys : List Pick} → Eaten G t ρ σ xs τ → Eaten G t ρ σ ys υ → Terminal t
       → (xs ≡ ys) × (τ ≡ υ)
   token_determined (Eaten.matched c) (Eaten.matched d) i = (refl, refl)
   token_determined (Eaten.matched c) (Eaten.expanded d k) i = absurd (two_picks c d i (λ e. zero_one (cc)))
   token_determined (Eaten.matched c) (Eaten.dropped d k) i = absurd (two_picks c d i (λ e. zero_one (cc)))
   token_determined (Eaten.expanded c h) (Eaten.matched d) i = absurd (two_picks c d i (λ e. zero_one (cc)))
-  token_determined {t = t} {υ = υ} {ρ = ρ}
+  token_determined {t = t} {ρ = ρ} {υ = υ}
       (Eaten.expanded {p = p} {β = β} {σ = σ} {xs = xs} c h)
       (Eaten.expanded {p = q} {β = γ} {xs = ys} d k)
       i =
@@ -112,7 +112,7 @@ module _ (G : Grammar) (N R : ℕ) (good : Good G N R) where
   token_determined (Eaten.dropped c h) (Eaten.dropped d k) i =
       let both = token_determined h k i in (ap (λ zs. dropping ∷ zs) both.0, both.1)
 
-  budgeted : {t : ℕ} {σ τ ρ : List ℕ} {xs : List Pick} → Eaten G t ρ σ xs τ → (k : ℕ) → At G σ → Budget G.rules t σ k → expands xs ≤ k
+  budgeted : {t : ℕ} {ρ σ τ : List ℕ} {xs : List Pick} → Eaten G t ρ σ xs τ → (k : ℕ) → At G σ → Budget G.rules t σ k → expands xs ≤ k
   unfolding expands
   budgeted (Eaten.matched c) k a b = omega arith
   budgeted (Eaten.expanded {σ = σ} c h) zero a b =
