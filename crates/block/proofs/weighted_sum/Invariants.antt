@@ -1,0 +1,12 @@
+use Prim.Native.Nat.{◌+◌, ◌*◌, ◌-◌, ◌≤◌}
+use native.Mathlib.Omega.{arith}
+use mathlib.Core.Path.{◌≡◌, sym, ap, ap₂, ◌∙◌}
+use Rattle.grammar.specs.File.{weighted_sum}
+use Rattle.grammar.specs.Theory.Files.{sum_none, sum_more}
+use Rattle.block.proofs.weighted_sum.Given as goal
+
+abbrev pub invariant-loop-i : goal.invariant-loop-i
+invariant-loop-i l = (l.i ≤ l.size) × (l.sum ≡ weighted_sum l.bytes l.start l.i) × (l.sum ≤ 130050 * l.i)
+
+abbrev pub decreases-loop-i : goal.decreases-loop-i
+decreases-loop-i l = l.size - l.i
