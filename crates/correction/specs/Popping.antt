@@ -10,7 +10,8 @@ use Rattle.grammar.specs.Moves.{Move, edits, edit_words}
 use Rattle.grammar.specs.Run.{Pop, Popped, pops}
 use Rattle.grammar.specs.Theory.Folds.{missing_of}
 use Rattle.grammar.specs.Theory.Members.{all_map}
-use Rattle.grammar.specs.Theory.Pops.{pop_by, pops_by, popped_by}
+use Rattle.grammar.specs.Theory.Pops.{pop_by, pops_by}
+use Rattle.grammar.proofs.Theory.Pops.{popped_by}
 use Rattle.grammar.specs.Theory.Tables.{Sized, SymbolOf}
 use Rattle.moves.specs.Pile.{pile, pile_length, pile_at}
 use Rattle.moves.specs.States.{CanCount, dropped_by, inserted_by}

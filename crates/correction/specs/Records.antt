@@ -3,7 +3,7 @@ use Rattle.std.specs.Prelude.{ℕ, suc, ◌+◌, ◌*◌, ◌≤◌, ◌<◌, �
 use Rattle.std.proofs.Common.{ap, ◌∙◌, append_assoc, arith, length-set, take-suc, take-suc-set, length-take-le}
 use Rattle.grammar.specs.Moves.{Move, Edit, edits, edit_words}
 use Rattle.grammar.specs.Run.{deletes}
-use Rattle.grammar.specs.Theory.Folds.{edits_append}
+use Rattle.grammar.proofs.Theory.Folds.{edits_append}
 
 -- ---- One record
 

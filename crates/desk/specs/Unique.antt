@@ -2,7 +2,7 @@
 -- input are equal. That the outcome is one is a theorem about the definitions, `desk_unique` of `Requests`.
 use Rattle.std.specs.Prelude.{ℕ, ◌≡◌, List}
 use Rattle.grammar.specs.Desk.{DeskAnswer}
-use Rattle.grammar.specs.Theory.Requests as Requests
+use Rattle.grammar.proofs.Theory.Requests as Requests
 use Rattle.desk.specs.Answer.{desk_of}
 use Rattle.desk.specs.declared.Desk.{Desk}
 use Rattle.desk.specs.declared.Desk.TheVariants.{Listed, Refused}

@@ -5,8 +5,8 @@ use Rattle.std.proofs.Common.{sym, ap, ◌∙◌}
 use Rattle.std.proofs.Math.Option.{Option}
 use Rattle.grammar.specs.Refusals.{Outcome}
 use Rattle.grammar.specs.declared.Refusal.{Refusal}
-use Rattle.grammar.specs.Theory.Requests.{file_written_unique, desk_unique, marks_unique}
-use Rattle.grammar.specs.Theory.Sentences.{verdict_unique, file_read_unique, parsed_unique, reported_unique}
+use Rattle.grammar.proofs.Theory.Requests.{file_written_unique, desk_unique, marks_unique}
+use Rattle.grammar.proofs.Theory.Sentences.{verdict_unique, file_read_unique, parsed_unique, reported_unique}
 use Rattle.exports.specs.Status.{
   AnsweredAs,
   CheckedAs,

@@ -2,7 +2,7 @@
 -- one input are equal. That the outcome is one is a theorem about the definitions, `file_read_unique`.
 use Rattle.std.specs.Prelude.{ℕ, ◌≡◌, List}
 use Rattle.grammar.specs.File.{FileRead}
-use Rattle.grammar.specs.Theory.Sentences.{file_read_unique}
+use Rattle.grammar.proofs.Theory.Sentences.{file_read_unique}
 use Rattle.file.specs.Answer.{reading_of}
 use Rattle.file.specs.declared.Reading.{Reading}
 use Rattle.file.specs.declared.Reading.TheVariants.{Words, Refused}

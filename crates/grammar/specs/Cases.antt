@@ -1,7 +1,3 @@
 -- Document 01's twelve cases: one list, one theorem.
 pub mod Case
 pub mod Cases
-pub mod Compared
-pub mod Twelve
-pub mod Bound
-pub mod Hundredths

@@ -9,9 +9,6 @@ pub mod Follows
 pub mod Costs
 pub mod Prices
 pub mod Decided
-pub mod Search
-pub mod Choose
-pub mod Runs
 pub mod Reflects
 pub mod Shape
 pub mod Wording
@@ -19,5 +16,3 @@ pub mod Predicts
 pub mod Judge
 pub mod Verdicts
 pub mod Words
-pub mod Parses
-pub mod Cycles

@@ -27,7 +27,7 @@ use Rattle.grammar.specs.declared.Counts.{Counts}
 use Rattle.grammar.specs.declared.Refusal.{Refusal}
 use Rattle.grammar.specs.declared.Refusal.TheVariants.{BadLog}
 use Rattle.grammar.specs.declared.Report.{Report}
-use Rattle.grammar.specs.Theory.Answers.{log_held}
+use Rattle.grammar.proofs.Theory.Answered.{log_held}
 use Rattle.grammar.specs.Theory.Conditions.{lowest_from}
 
 pub entries_length : (value : ℕ → ℕ) (at n : ℕ) → length (entries_at value at n) ≡ n

@@ -9,7 +9,7 @@ use Rattle.grammar.specs.Moves.{Move, Edit, edits, edit_words}
 use Rattle.grammar.specs.Run.{counts_of, left}
 use Rattle.grammar.specs.Pace.{Reports, Reported, ReportsBy}
 use Rattle.grammar.specs.Refusals.{Outcome, given, refused, number_of}
-use Rattle.grammar.specs.Theory.Folds.{edit_words_length}
+use Rattle.grammar.proofs.Theory.Folds.{edit_words_length}
 use Rattle.grammar.specs.Theory.Fills.{fills_content}
 use Rattle.grammar.specs.Listing.{
   Counted,

@@ -18,8 +18,8 @@ use Rattle.listing.specs.declared.input.Blocks.TheVariants.{EndAt, Refused}
 use Rattle.listing.specs.declared.input.Taken.{Taken}
 use Rattle.listing.specs.declared.input.Taken.TheVariants.{Refused as NotTaken}
 use Rattle.listing.specs.Answer.{Appends, InputCounted, TakenApart, Wrote, end_of}
-use Rattle.grammar.specs.Theory.Answers.{parses_unique}
-use Rattle.grammar.specs.Theory.Sentences.{file_read_unique, reported_unique}
+use Rattle.grammar.proofs.Theory.Answered.{parses_unique}
+use Rattle.grammar.proofs.Theory.Sentences.{file_read_unique, reported_unique}
 
 -- Two readings of one file give the same words.
 pub same_words : {bytes x y : List ℕ} {n m : ℕ} → FileRead bytes 2783 (given n) x → FileRead bytes 2783 (given m) y → take n x ≡ take m y

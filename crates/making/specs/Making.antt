@@ -12,7 +12,7 @@ use Rattle.grammar.specs.Writing.{FileWritten}
 use Rattle.grammar.specs.declared.Refusal.TheVariants.{BadCount}
 use Rattle.grammar.specs.Theory.Conditions.{applies}
 use Rattle.grammar.specs.Theory.Fills.{made_clear}
-use Rattle.grammar.specs.Theory.Requests.{file_written_unique}
+use Rattle.grammar.proofs.Theory.Requests.{file_written_unique}
 use Rattle.grammar.specs.declared.Refusal.{Refusal}
 use Rattle.input.specs.declared.Part.{Part}
 use Rattle.spelling.specs.Answer.{counted, Answered, Begun}

@@ -1,7 +1,7 @@
 -- A text and a byte buffer allow one answer: `made_unique`.
 use Rattle.std.specs.Prelude.{ℕ, ◌+◌, ◌≡◌, refl, List, length}
 use Rattle.std.proofs.Common.{sym, ap, subst, ◌∙◌}
-use Rattle.grammar.specs.Theory.Requests.{file_written_unique}
+use Rattle.grammar.proofs.Theory.Requests.{file_written_unique}
 use Rattle.grammar.specs.Theory.Outcomes.{given_refused, given_same, refused_same}
 use Rattle.spelling.specs.Answer.{counted}
 use Rattle.spelling.specs.Unique.{spells_unique, stops_unique, not_both}

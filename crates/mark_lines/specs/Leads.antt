@@ -11,9 +11,9 @@ use Rattle.grammar.specs.Refusals.{Outcome, given, refused, number_of}
 use Rattle.grammar.specs.Listing.{refused_line, tokens_of, ticks_of}
 use Rattle.grammar.specs.declared.Counts.{Counts}
 use Rattle.grammar.specs.declared.Refusal.{Refusal}
-use Rattle.grammar.specs.Theory.Answers.{parses_asking}
+use Rattle.grammar.proofs.Theory.Answered.{parses_asking}
 use Rattle.grammar.specs.Theory.Fills.{front_of}
-use Rattle.grammar.specs.Theory.Marking.{marks_kept}
+use Rattle.grammar.proofs.Theory.Marking.{marks_kept}
 use Rattle.listing.specs.Enough.{parses_front, parsed_held}
 use Rattle.listing.specs.Leads.{Kept, all_ticks, fewer_ticks}
 use Rattle.marks.specs.Answer.{word_by}

@@ -7,10 +7,10 @@ use Rattle.grammar.specs.MarkLines.{MarksPrinted, mark_listing}
 use Rattle.grammar.specs.Run.{Asks, Parses}
 use Rattle.grammar.specs.Refusals.{Outcome, number_of}
 use Rattle.grammar.specs.Listing.{refused_line, ticks_of}
-use Rattle.grammar.specs.Theory.Answers.{parses_unique}
-use Rattle.grammar.specs.Theory.Marking.{marks_one}
+use Rattle.grammar.proofs.Theory.Answered.{parses_unique}
+use Rattle.grammar.proofs.Theory.Marking.{marks_one}
 use Rattle.grammar.specs.Theory.Outcomes.{given_refused, given_same, refused_same}
-use Rattle.grammar.specs.Theory.Sentences.{file_read_unique}
+use Rattle.grammar.proofs.Theory.Sentences.{file_read_unique}
 use Rattle.listing.specs.Unique.{same_words, read_or_refused}
 
 -- Two parses by the same words come to the same.

@@ -16,11 +16,12 @@ use Rattle.grammar.specs.Refusals.{Outcome, given, refused}
 use Rattle.grammar.specs.declared.Refusal.{Refusal}
 use Rattle.grammar.specs.declared.Refusal.TheVariants.{ShortTokens}
 use Rattle.grammar.specs.declared.Counts.{Counts}
-use Rattle.grammar.specs.Theory.Answers.{Admitted, log_tokens, parses_asking}
-use Rattle.grammar.specs.Theory.Folds.{edit_words_length}
-use Rattle.grammar.specs.Theory.Marking.{run_of, known_repaired, marks_exist, marks_kept}
-use Rattle.grammar.specs.Theory.Places.{walk_run}
-use Rattle.grammar.specs.Theory.Refused.{answered_given, answered_refused, parses_words}
+use Rattle.grammar.specs.Theory.Answered.{Admitted}
+use Rattle.grammar.proofs.Theory.Answered.{log_tokens, parses_asking}
+use Rattle.grammar.proofs.Theory.Folds.{edit_words_length}
+use Rattle.grammar.proofs.Theory.Marking.{run_of, known_repaired, marks_exist, marks_kept}
+use Rattle.grammar.proofs.Theory.Places.{walk_run}
+use Rattle.grammar.proofs.Theory.Refused.{answered_given, answered_refused, parses_words}
 use Rattle.parser.specs.Parses.{CheapWhere, cheap_where}
 use Rattle.parser.specs.Runs.{parsing_of}
 use Rattle.parser.specs.declared.Parsing.{Parsing}

@@ -13,7 +13,8 @@ use Rattle.grammar.specs.Moves.{Move, Edit, edits, edit_words, log_token, repair
 use Rattle.grammar.specs.Marks.{Mark, kept_mark, added_marks, Marked, MarksOf}
 use Rattle.grammar.specs.Theory.Closed.{all_rest}
 use Rattle.grammar.specs.Theory.Good.{Accepted}
-use Rattle.grammar.specs.Theory.Places.{Walk, Rising, places_rise}
+use Rattle.grammar.specs.Theory.Places.{Walk, Rising}
+use Rattle.grammar.proofs.Theory.Places.{places_rise}
 use Rattle.grammar.specs.Theory.States.{LogToken}
 use Rattle.grammar.specs.Theory.Strings.{plain_words, ends_one}
 use Rattle.strings.specs.Spelled.{Rights, known_spelt}

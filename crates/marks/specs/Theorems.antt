@@ -5,7 +5,7 @@ use Rattle.std.proofs.Common.{sym, ap, ap₂}
 use Rattle.grammar.specs.Marks.{Mark, Marks, MarksAnswer}
 use Rattle.grammar.specs.Run.{Asks}
 use Rattle.grammar.specs.declared.Counts.{Counts}
-use Rattle.grammar.specs.Theory.MarkAnswers as MarkAnswers
+use Rattle.grammar.proofs.Theory.MarkAnswers as MarkAnswers
 use Rattle.grammar.specs.Theory.Outcomes.{given_refused, given_same, refused_same}
 use Rattle.marks.specs.Answer.{marking_of}
 use Rattle.marks.specs.declared.Marking.{Marking}

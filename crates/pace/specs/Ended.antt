@@ -13,8 +13,9 @@ use Rattle.grammar.specs.Buffers.{filled}
 use Rattle.grammar.specs.Run.{counts_of}
 use Rattle.grammar.specs.Pace.{Kept, Edited, CleanCycles, Reports, pace_of, report_of, ReportsBy}
 use Rattle.grammar.specs.Refusals.{given}
-use Rattle.grammar.specs.Theory.FewCycles.{closes_within}
-use Rattle.grammar.specs.Theory.Places.{Walk, Deleted, walk_run, places_rise, kept_token, kept_apart, kept_or_deleted}
+use Rattle.grammar.proofs.Theory.FewCycles.{closes_within}
+use Rattle.grammar.specs.Theory.Places.{Walk, Deleted}
+use Rattle.grammar.proofs.Theory.Places.{walk_run, places_rise, kept_token, kept_apart, kept_or_deleted}
 use Rattle.pace.specs.Recorded.{entry_at, index_of, records_rise}
 use Rattle.pace.specs.Found.{Found}
 use Rattle.pace.specs.Standing.{Spoils}

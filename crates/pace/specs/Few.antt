@@ -3,7 +3,7 @@ use Rattle.std.specs.Prelude.{◌≡◌, ℕ, ◌+◌, ◌≤◌, Bool, true, fa
 use Rattle.std.proofs.lemmas.Bool.{false≢true}
 use Rattle.std.proofs.Common.{arith}
 use Rattle.grammar.specs.Pace.{wrapped}
-use Rattle.grammar.specs.Theory.FewCycles.{time_most}
+use Rattle.grammar.proofs.Theory.FewCycles.{time_most}
 use Rattle.pace.specs.Watch.{Few, Small, spoiled_by, closed_by, opened_by, step_by}
 use Rattle.pace.specs.declared.Watch.{Watch}
 

@@ -5,8 +5,9 @@ use Rattle.std.proofs.Common.{sym, ap, ◌∙◌, ⊎_elim, arith, length-append
 use mathlib.Core.List.Memᴰ
 use mathlib.Core.List.{Memᴰ}
 use Rattle.grammar.specs.Moves.{Edit, edit_words}
-use Rattle.grammar.specs.Theory.Folds.{edit_words_length}
-use Rattle.grammar.specs.Theory.Places.{Rising, rising_member}
+use Rattle.grammar.proofs.Theory.Folds.{edit_words_length}
+use Rattle.grammar.specs.Theory.Places.{Rising}
+use Rattle.grammar.proofs.Theory.Places.{rising_member}
 use Rattle.pace.specs.Watch.{kind_at, place_at, Records}
 
 -- The records behind the first.

@@ -13,9 +13,9 @@ use Rattle.grammar.specs.declared.Refusal.{Refusal}
 use Rattle.grammar.specs.declared.Refusal.TheVariants.{Hundredths}
 use Rattle.grammar.specs.declared.Counts.{Counts}
 use Rattle.grammar.specs.declared.Report.{Report}
-use Rattle.grammar.specs.Theory.Answers.{admitted, log_held, parses_asking}
+use Rattle.grammar.proofs.Theory.Answered.{admitted, log_held, parses_asking}
 use Rattle.grammar.specs.Theory.Conditions.{lowest_from}
-use Rattle.grammar.specs.Theory.Headers.{unit_one}
+use Rattle.grammar.proofs.Theory.Headers.{unit_one}
 use Rattle.grammar.specs.Theory.Outcomes.{given_refused, given_same, refused_same}
 use Rattle.pace.specs.Ended.{ran_records}
 use Rattle.pace.specs.Watch.{Ran, Lent, Finds}

@@ -8,9 +8,9 @@ use Rattle.grammar.specs.Refusals.{given}
 use Rattle.grammar.specs.Pace.{Span, wrapped, cycle_ms, Reported}
 use Rattle.grammar.specs.declared.Report.{Report}
 use Rattle.grammar.specs.declared.Counts.{Counts}
-use Rattle.grammar.specs.Theory.Sentences as Sentences
+use Rattle.grammar.proofs.Theory.Sentences as Sentences
 use Rattle.pace.specs.Answer.{paced_of, paced_same}
-use Rattle.grammar.specs.Theory.Requests.{report_limits}
+use Rattle.grammar.proofs.Theory.Requests.{report_limits}
 use Rattle.pace.specs.Exact.{exact}
 use Rattle.pace.specs.declared.Paced.{Paced}
 

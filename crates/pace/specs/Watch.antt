@@ -10,7 +10,7 @@ use Rattle.grammar.specs.Run.{RunOf, counts_of}
 use Rattle.grammar.specs.Pace.{wrapped, Reports}
 use Rattle.grammar.specs.Refusals.{given}
 use Rattle.grammar.specs.declared.Report.{Report}
-use Rattle.grammar.specs.Theory.Answers.{Admitted}
+use Rattle.grammar.specs.Theory.Answered.{Admitted}
 use Rattle.pace.specs.declared.Marks.{Marks}
 use Rattle.pace.specs.declared.Here.{Here}
 use Rattle.pace.specs.declared.Watch.{Watch}

@@ -10,7 +10,8 @@ use Rattle.grammar.specs.Run.{RunOf, LogFits, LogBelow, Asks, only10, run_condit
 use Rattle.grammar.specs.Refusals.{Lowest, Outcome, given, refused}
 use Rattle.grammar.specs.declared.Refusal.{Refusal}
 use Rattle.grammar.specs.declared.Counts.{Counts}
-use Rattle.grammar.specs.Theory.Answers.{conditions_from10, log_held, log_tokens, parses_asking}
+use Rattle.grammar.specs.Theory.Answered.{conditions_from10}
+use Rattle.grammar.proofs.Theory.Answered.{log_held, log_tokens, parses_asking}
 use Rattle.grammar.specs.Theory.Conditions.{none_fails, held_front, refused_front}
 use Rattle.grammar.specs.Theory.Good.{accepted, good_words}
 use Rattle.grammar.specs.Theory.Tables.{Inner, sized_of, Cheap, cheap_of}

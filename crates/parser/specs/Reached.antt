@@ -11,11 +11,14 @@ use Rattle.grammar.specs.Run.{Pick, Choice, State, Limits, Run, started, next, m
 use Rattle.grammar.specs.declared.Refusal.{Refusal}
 use Rattle.grammar.specs.Theory.Good.{Good}
 use Rattle.grammar.specs.Theory.Forms.{Ended}
-use Rattle.grammar.specs.Theory.States.{LogToken, Live, live_start}
-use Rattle.grammar.specs.Theory.Paths.{Path, path_on, path_run, path_live}
-use Rattle.grammar.specs.Theory.Folds.{rules_append, edits_few, rules_few}
-use Rattle.grammar.specs.Theory.Counted.{path_counted, path_within, Within}
-use Rattle.grammar.specs.Theory.Bounded.{path_moves_bounded}
+use Rattle.grammar.specs.Theory.States.{LogToken, Live}
+use Rattle.grammar.proofs.Theory.States.{live_start}
+use Rattle.grammar.specs.Theory.Paths.{Path}
+use Rattle.grammar.proofs.Theory.Paths.{path_on, path_run, path_live}
+use Rattle.grammar.proofs.Theory.Folds.{rules_append, edits_few, rules_few}
+use Rattle.grammar.specs.Theory.Counted.{Within}
+use Rattle.grammar.proofs.Theory.Counted.{path_counted, path_within}
+use Rattle.grammar.proofs.Theory.Bounded.{path_moves_bounded}
 use Rattle.grammar.specs.Theory.Tables.{Inner, Sized, SymbolOf, Pushes}
 use Rattle.moves.specs.Pile.{pile, pile_length, pile_at}
 use Rattle.moves.specs.States.{CanCount}

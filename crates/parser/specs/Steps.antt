@@ -14,9 +14,9 @@ use Rattle.grammar.specs.Moves.{edits, edit_words, rule_numbers}
 use Rattle.grammar.specs.Run.{Pop, Pick, Choice, Hit, matching, expanding, dropping, correcting, next, made, limit, deletes, pops}
 use Rattle.grammar.specs.declared.Refusal.{Refusal}
 use Rattle.grammar.specs.declared.Refusal.TheVariants.{NoRoom}
-use Rattle.grammar.specs.Theory.Bounded.{popped_count, correction_length}
-use Rattle.grammar.specs.Theory.Counted.{next_records}
-use Rattle.grammar.specs.Theory.Folds.{edits_correction, rules_correction}
+use Rattle.grammar.proofs.Theory.Bounded.{popped_count, correction_length}
+use Rattle.grammar.proofs.Theory.Counted.{next_records}
+use Rattle.grammar.proofs.Theory.Folds.{edits_correction, rules_correction}
 use Rattle.grammar.specs.Theory.Tables.{Sized}
 use Rattle.moves.specs.Pile.{pile, pile_length, pile_top, pile_drop}
 use Rattle.moves.specs.States.{matched_by, dropped_by}

@@ -2,7 +2,7 @@
 use Rattle.std.specs.Prelude.{ℕ, List}
 use mathlib.Core.Path.{◌≡◌, ap}
 use Rattle.grammar.specs.Run.{Asks, ParsedAsking}
-use Rattle.grammar.specs.Theory.Answers.{parsed_unique}
+use Rattle.grammar.proofs.Theory.Answered.{parsed_unique}
 use Rattle.grammar.specs.Theory.Outcomes.{given_same, refused_same, given_refused}
 use Rattle.parser.specs.Runs.{parsing_of}
 use Rattle.parser.specs.declared.Parsing.{Parsing}

@@ -13,7 +13,7 @@ ghost use Rattle.base.specs.Telling.{Tells};
 ghost use Rattle.grammar.specs.Run.{LogFits, Parsed, ParsedAsking};
 ghost use Rattle.grammar.specs.Words.{Shaped};
 ghost use Rattle.grammar.specs.Refusals.{Lowest};
-ghost use Rattle.grammar.specs.Theory.Answers.{conditions_from10};
+ghost use Rattle.grammar.specs.Theory.Answered.{conditions_from10};
 ghost use Rattle.grammar.specs.Theory.Tables.{sized_of};
 ghost use Rattle.verdict.specs.Answer.{check_of};
 

@@ -8,7 +8,7 @@ use lib.Dec.{ltb, eqb}
 use lib.ListN.{length}
 use Rattle.base.specs.Telling.{Tells, tells_le, tells_eq, tells_as}
 use Rattle.grammar.specs.Words.{word, header_size, terminal_count, restart_mark, Marks, Restart, RuleSymbol}
-use Rattle.grammar.specs.Theory.Headers.{size_least, size_most}
+use Rattle.grammar.proofs.Theory.Headers.{size_least, size_most}
 use Rattle.shape.specs.Parts.{Between, EndAsked, EndRight, HeaderRight, TerminalRight}
 
 -- Without an opening mark there is no closing mark,

@@ -22,7 +22,7 @@ use Rattle.grammar.specs.Words.{
   RuleSymbol,
   Shaped,
 }
-use Rattle.grammar.specs.Theory.Headers.{size_least}
+use Rattle.grammar.proofs.Theory.Headers.{size_least}
 use Rattle.grammar.specs.Theory.RightSides.{right_at}
 use Rattle.shape.specs.Accessors.{LeftOf, SizeOf, SymbolAt, WordsOf, header_words, terminal_words}
 use Rattle.shape.specs.Inside.{header_inside, left_ranged, right_length, symbol_small}

@@ -9,7 +9,7 @@
 use Rattle.std.specs.Prelude.{ℕ, zero, suc, ◌+◌, ◌*◌, ◌≤◌, ◌<◌, ◌≡◌, refl, List, length, drop}
 use Rattle.std.proofs.Common.{arith, le_refl, length-take, length-drop}
 use Rattle.std.proofs.Math.Decide.{le_ind}
-use Rattle.grammar.specs.Theory.Headers.{size_most}
+use Rattle.grammar.proofs.Theory.Headers.{size_most}
 use Rattle.grammar.specs.Words.{
   header_size,
   terminal_count,

@@ -9,12 +9,12 @@ use Rattle.grammar.specs.Words.{RuleSymbol, nonterminal_count, terminal_count, i
 use Rattle.grammar.specs.Derivation.{All}
 use Rattle.grammar.specs.Cost.{SymbolCost, ListCost, CheapestRule, Ends}
 use Rattle.grammar.specs.Grammar.{RuleOf, grammar_of}
-use Rattle.grammar.specs.Theory.CheapestRules as CheapestRules
+use Rattle.grammar.proofs.Theory.CheapestRules as CheapestRules
 use Rattle.grammar.specs.Theory.Closed.{closed_down}
 use Rattle.grammar.specs.Theory.Costing.{list_cost_unique}
 use Rattle.grammar.specs.Theory.Good.{Accepted, Good, good_words, good_below}
 use Rattle.grammar.specs.Theory.Leftmost.{to_der}
-use Rattle.grammar.specs.Theory.Marking.{known_ends}
+use Rattle.grammar.proofs.Theory.Marking.{known_ends}
 use Rattle.grammar.specs.Theory.Members.{all_map}
 use Rattle.grammar.specs.Theory.Strings.{plain_words, ends_terminals, ends_yields, ends_cost, string_length}
 use Rattle.grammar.specs.Theory.Tables.{packed}

@@ -2,7 +2,7 @@
 -- input are equal. That the outcome is one is a theorem about the definitions, `file_written_unique`.
 use Rattle.std.specs.Prelude.{ℕ, ◌≡◌, List}
 use Rattle.grammar.specs.Writing.{FileWritten}
-use Rattle.grammar.specs.Theory.Requests.{file_written_unique}
+use Rattle.grammar.proofs.Theory.Requests.{file_written_unique}
 use Rattle.writer.specs.Answer.{writing_of}
 use Rattle.writer.specs.declared.Writing.{Writing}
 use Rattle.writer.specs.declared.Writing.TheVariants.{Bytes, Refused}

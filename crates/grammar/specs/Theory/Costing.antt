@@ -1,6 +1,6 @@
 -- Costs, for any rules: a symbol, a list and a nonterminal's cheapest rule are one each; a list costs the sum over its members; and some
 -- rule reaches the cost of its left side.
-use Rattle.std.specs.Prelude.{ℕ, ◌+◌, ◌≤◌, ◌≡◌, List, [], ◌∷◌, ◌++◌}
+use Rattle.std.specs.Prelude.{ℕ, ◌≤◌, ◌≡◌, List, [], ◌∷◌}
 use Rattle.std.proofs.Math.Path.{refl}
 use Rattle.std.proofs.Common.{sym, ◌∙◌, subst, append-nil, arith}
 use Rattle.grammar.specs.Words.{Terminal}

@@ -4,10 +4,10 @@
 --     ends_yields      the list derives it
 --     ends_cost        it costs what the list costs
 --     ends-length      it has no more tokens than it costs, where no token is free
-use Rattle.std.specs.Prelude.{ℕ, zero, suc, ◌+◌, ◌≤◌, ◌≡◌, List, [], ◌∷◌, ◌++◌, length}
+use Rattle.std.specs.Prelude.{ℕ, ◌+◌, ◌≤◌, ◌≡◌, List, ◌∷◌, ◌++◌, length}
 use Rattle.std.proofs.Math.Path.{refl, ap, subst}
-use Rattle.std.proofs.Common.{sym, ap₂, ◌∙◌, arith, length-append}
-use Rattle.grammar.specs.Words.{Terminal, insert_cost}
+use Rattle.std.proofs.Common.{sym, ap₂, ◌∙◌, arith}
+use Rattle.grammar.specs.Words.{Terminal}
 use Rattle.grammar.specs.Derivation.{Rules, All, Yields}
 use Rattle.grammar.specs.Cost.{string_cost, SymbolCost, ListCost, CheapestRule, Ends}
 use Rattle.grammar.specs.Grammar.{RuleOf}

@@ -2,7 +2,7 @@
 use native.Mathlib.Omega.{arith}
 use Rattle.base.specs.Telling.{denied}
 use Rattle.shape.proofs.Judging.{terminals_as, marks_as, restart_as, header_tells}
-use Rattle.grammar.specs.Theory.Headers.{size_least}
+use Rattle.grammar.proofs.Theory.Headers.{size_least}
 use borrow.Author.Rules.{rules}
 use Rattle.shape.proofs.header_right.Statement.{statement}
 use Rattle.shape.proofs.header_right.Tie as tie

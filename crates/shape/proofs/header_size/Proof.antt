@@ -1,6 +1,6 @@
 -- `shape::header_size` meets its contract: word 0 alone tells.
 use mathlib.Core.Path.{sym}
-use Rattle.grammar.specs.Theory.Headers.{long_size, short_size}
+use Rattle.grammar.proofs.Theory.Headers.{long_size, short_size}
 use borrow.Author.Rules.{rules}
 use Rattle.shape.proofs.header_size.Statement.{statement}
 use Rattle.shape.proofs.header_size.Tie as tie

@@ -1,6 +1,6 @@
 -- `shape::restart_word` meets its contract: word 0 alone tells whether there is one.
 use mathlib.Core.Path.{sym}
-use Rattle.grammar.specs.Theory.Headers.{long_restart, short_restart}
+use Rattle.grammar.proofs.Theory.Headers.{long_restart, short_restart}
 use borrow.Author.Rules.{rules}
 use Rattle.shape.proofs.restart_word.Statement.{statement}
 use Rattle.shape.proofs.restart_word.Tie as tie

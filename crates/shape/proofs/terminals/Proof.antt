@@ -1,6 +1,6 @@
 -- `shape::terminals` meets its contract: word 0 alone tells.
 use mathlib.Core.Path.{sym}
-use Rattle.grammar.specs.Theory.Headers.{long_terminals, short_terminals}
+use Rattle.grammar.proofs.Theory.Headers.{long_terminals, short_terminals}
 use borrow.Author.Rules.{rules}
 use Rattle.shape.proofs.terminals.Statement.{statement}
 use Rattle.shape.proofs.terminals.Tie as tie
