@@ -31,11 +31,11 @@ pub closing_has : {feeds begun sets : List ℕ} (P : ℕ → ℕ → Type 0) →
     → ((k t : ℕ) → member (get_or begun k 0) t ≡ true → P k t)
     → ((j k t : ℕ) → member (get_or feeds j 0) k ≡ true → P j t → P k t)
     → (k t : ℕ) → member (get_or sets k 0) t ≡ true → P k t
-closing_has {feeds} {begun} P closing first next k t m = all k t ((closing.exact k t).0 m)
+closing_has {feeds} {begun} P closing first next k t m = all t k ((closing.exact k t).0 m)
   where
-    all : (k t : ℕ) → Comes feeds begun t k → P k t
-    all k t (Comes.here h) = first k t h
-    all k t (Comes.onward {j = j} c h) = next j k t h (all j t c)
+    all : (t k : ℕ) → Comes feeds begun t k → P k t
+    all t k (Comes.here h) = first k t h
+    all t k (Comes.onward {j = j} c h) = next j k t h (all t j c)
 
 -- Every set that feeds one is on the list.
 abbrev pub Listed : List ℕ → ℕ → Type 0
@@ -219,14 +219,14 @@ close_goes {feeds} {begun} {old} {new} {list} {k} {fed} {mask} {grown} high o at
 -- Behind the list there is nothing to pass on, so that a set holds what comes to it.
 pub close_ends : {feeds begun sets : List ℕ} {list : ℕ} → Opened feeds begun sets list → list ≡ 0 → Closing feeds begun sets
 close_ends {feeds} {begun} {sets} {list} o e =
-    record { size = o.size; exact = λ k t. (o.sound k t, all k t) }
+    record { size = o.size; exact = λ k t. (o.sound k t, all t k) }
   where
     nothing : (k : ℕ) → member list k ≡ true → ⊥
     nothing k m = empty_none k (subst (λ s. member s k ≡ true) e m)
 
-    all : (k t : ℕ) → Comes feeds begun t k → member (get_or sets k 0) t ≡ true
-    all k t (Comes.here m) = o.keeps k t m
-    all k t (Comes.onward {j = j} c m) = o.passed j (nothing j) k m t (all j t c)
+    all : (t k : ℕ) → Comes feeds begun t k → member (get_or sets k 0) t ≡ true
+    all t k (Comes.here m) = o.keeps k t m
+    all t k (Comes.onward {j = j} c m) = o.passed j (nothing j) k m t (all t j c)
 
 -- What is left to be done falls: a set has grown, or the list has lost one.
 abbrev pub left : List ℕ → ℕ → ℕ
