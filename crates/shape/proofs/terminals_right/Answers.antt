@@ -9,18 +9,6 @@ use Rattle.shape.specs.Parts.{TerminalRight}
 use Rattle.shape.proofs.Judging.{header_some, cost_as, reliability_as, terminal_right}
 use Rattle.shape.proofs.terminals_right.Goals as goal
 
--- In a turn t is a terminal,
-counted : (c : goal.In-loop-t invariant-loop decreases-loop) →
-    c.loop-t.t < terminal_count c.args.words.now
-counted c =
-    omega (arith, c.wide-count.ensures.value, c.terminals.ensures, c.loop-t-test.true)
-
--- and both its words lie inside the list.
-inside : (c : goal.In-loop-t invariant-loop decreases-loop) →
-    c.header_size-from.result + 2 * c.loop-t.t + 1 < length c.args.words.now
-inside c =
-    omega (arith, counted c, c.requires.end.inside, c.header_size-from.ensures)
-
 pub terminals-requires : goal.terminals-requires
 terminals-requires c = omega (arith, header_some _ c.requires)
 
@@ -31,39 +19,39 @@ pub loop-t-init : goal.loop-t-init
 loop-t-init c = (omega arith, λ k below above. absurd (omega arith))
 
 pub overflow_add-from : goal.overflow_add-from
-overflow_add-from c = omega (arith, inside c)
+overflow_add-from c = omega (arith, c.wide-count.ensures.value, c.terminals.ensures, c.loop-t-test.true, c.requires.end.inside, c.header_size-from.ensures)
 
 pub offset_bounds-words-from : goal.offset_bounds-words-from
-offset_bounds-words-from c = omega (arith, inside c)
+offset_bounds-words-from c = omega (arith, c.wide-count.ensures.value, c.terminals.ensures, c.loop-t-test.true, c.requires.end.inside, c.header_size-from.ensures)
 
 pub bounds-words-from : goal.bounds-words-from
-bounds-words-from c = omega (arith, inside c)
+bounds-words-from c = omega (arith, c.wide-count.ensures.value, c.terminals.ensures, c.loop-t-test.true, c.requires.end.inside, c.header_size-from.ensures)
 
 pub returns-else-between : goal.returns-else-between
 returns-else-between c =
     denied
     (λ all.
     c.between.ensures.no c.if-between.false
-    (cost_as _ c.header_size-from.ensures _ (all _ c.loop-t.invariant.0 (counted c))))
+    (cost_as _ c.header_size-from.ensures _ (all _ c.loop-t.invariant.0 (omega (arith, c.wide-count.ensures.value, c.terminals.ensures, c.loop-t-test.true)))))
 
 pub overflow_add-from-in-loop-t : goal.overflow_add-from-in-loop-t
-overflow_add-from-in-loop-t c = omega (arith, inside c)
+overflow_add-from-in-loop-t c = omega (arith, c.wide-count.ensures.value, c.terminals.ensures, c.loop-t-test.true, c.requires.end.inside, c.header_size-from.ensures)
 
 pub overflow_add-from-in-loop-t-2 : goal.overflow_add-from-in-loop-t-2
-overflow_add-from-in-loop-t-2 c = omega (arith, inside c)
+overflow_add-from-in-loop-t-2 c = omega (arith, c.wide-count.ensures.value, c.terminals.ensures, c.loop-t-test.true, c.requires.end.inside, c.header_size-from.ensures)
 
 pub offset_bounds-words-from-in-loop-t : goal.offset_bounds-words-from-in-loop-t
-offset_bounds-words-from-in-loop-t c = omega (arith, inside c)
+offset_bounds-words-from-in-loop-t c = omega (arith, c.wide-count.ensures.value, c.terminals.ensures, c.loop-t-test.true, c.requires.end.inside, c.header_size-from.ensures)
 
 pub bounds-words-from-in-loop-t : goal.bounds-words-from-in-loop-t
-bounds-words-from-in-loop-t c = omega (arith, inside c)
+bounds-words-from-in-loop-t c = omega (arith, c.wide-count.ensures.value, c.terminals.ensures, c.loop-t-test.true, c.requires.end.inside, c.header_size-from.ensures)
 
 pub returns-else-between-2 : goal.returns-else-between-2
 returns-else-between-2 c =
     denied
     (λ all.
     c.between-in-loop-t.ensures.no c.if-between-2.false
-    (reliability_as _ c.header_size-from.ensures _ (all _ c.loop-t.invariant.0 (counted c))))
+    (reliability_as _ c.header_size-from.ensures _ (all _ c.loop-t.invariant.0 (omega (arith, c.wide-count.ensures.value, c.terminals.ensures, c.loop-t-test.true)))))
 
 pub loop-t-preserved : goal.loop-t-preserved
 loop-t-preserved c =

@@ -13,7 +13,7 @@ loop-i-init c = (omega arith, refl, took_none c.args.part.now _ _)
 pub loop-i-preserved : goal.loop-i-preserved
 loop-i-preserved c =
     let further = took_more c.args.part.now c.loop-i.i c.loop-i-test.true c.loop-i.invariant.2 c.step-reached.ensures in
-    (omega arith, c.step-reached.auto.1.1.0 ∙ c.loop-i.invariant.1, further)
+    (omega arith, c.step-reached.auto.words ∙ c.loop-i.invariant.1, further)
 
 pub shape_of-words : goal.shape_of-words
 shape_of-words c = c.loop-i.invariant.1
