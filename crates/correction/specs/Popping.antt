@@ -24,6 +24,7 @@ use Rattle.correction.specs.Records.{CanRecord, Recorded, words_of, words_moves}
 
 passes : (b : Bool) → T b → b ≡ true
 passes true h = refl
+passes false h = elim h [ ]
 
 pub pops_popped : {S : Sized} {log masks prices : List ℕ} → Known S log masks prices → {Xs : List ℕ} → All (SymbolOf S) Xs
     → Popped S.grammar.rules Xs (pops_by (empty_by masks) Xs)

@@ -33,6 +33,7 @@ parts_of (Y ∷ γ) (Memᴰ.head e) = record { before = []; behind = γ; is = ap
 parts_of (Y ∷ γ) (Memᴰ.tail m) =
     let rest = parts_of γ m in
     record { before = Y ∷ rest.before; behind = rest.behind; is = ap (λ δ. Y ∷ δ) rest.is }
+parts_of [] x' = elim x' [ ]
 
 mentioned : (ws : List ℕ) (p : ℕ) → p < rule_count ws → Reachable (RuleOf ws) (START ∷ []) (left_side ws p) → {X : ℕ}
     → Memᴰ X (right_side ws p) → Reachable (RuleOf ws) (START ∷ []) X

@@ -10,7 +10,11 @@ pub loop-k-init : goal.loop-k-init
 loop-k-init c = (omega arith, blocks_begin _ _)
 
 pub copy_block-at-requires : goal.copy_block-at-requires
-copy_block-at-requires c = let all = (omega arith, (use_most (c.requires.each_block _ c.loop-k-test.true).use_count, omega (arith, block_fits _ c.requires.each_block _ c.loop-k-test.true))) in record { k_bound = all.0; k_bound_2 = all.1; k_in_bounds = all.2 }
+copy_block-at-requires c = record {
+  k_bound = omega arith;
+  k_bound_2 = use_most (c.requires.each_block _ c.loop-k-test.true).use_count;
+  k_in_bounds = omega (arith, block_fits _ c.requires.each_block _ c.loop-k-test.true);
+}
 
 pub loop-k-preserved : goal.loop-k-preserved
 loop-k-preserved c = (omega arith, blocks_go c.loop-k.invariant.1 c.copy_block-at.auto.words c.copy_block-at.ensures.value c.copy_block-at.ensures.words_after)

@@ -1,0 +1,23 @@
+use native.Mathlib.Omega.{arith}
+use Prim.Native.Nat.{◌-◌, ◌+◌}
+use mathlib.Core.Path.{ap}
+use Rattle.grammar.specs.Theory.Tables.{sized_of, limit_by}
+use Rattle.moves.specs.Pile.{pile}
+use Rattle.correction.specs.Searching.{
+  Walked,
+  token_below,
+  symbol_low,
+  seek_none,
+  seek_more,
+  seek_fits,
+  seek_hit,
+  seek_dear,
+  seek_all,
+}
+use Rattle.correction.proofs.seek.Given as goal
+
+abbrev pub invariant-loop-i : goal.invariant-loop-i
+invariant-loop-i l = Walked (sized_of l.words) l.prices (pile l.stack l.height) l.t l.i l.cost
+
+abbrev pub decreases-loop-i : goal.decreases-loop-i
+decreases-loop-i l = l.height - l.i

@@ -1,0 +1,10 @@
+use native.Mathlib.Omega.{arith}
+use mathlib.Core.Path.{sym, ◌∙◌}
+use Rattle.mentions.specs.Putting.{Mentioned, mention_begins, mention_goes, mention_ends}
+use Rattle.mentions.proofs.mention.Given as goal
+
+abbrev pub invariant-loop-i : goal.invariant-loop-i
+invariant-loop-i l = Mentioned l.words l.p l.i l.initial.table l.table l.named
+
+abbrev pub decreases-loop-i : goal.decreases-loop-i
+decreases-loop-i l = l.i

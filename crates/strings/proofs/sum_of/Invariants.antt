@@ -1,0 +1,12 @@
+use Rattle.strings.proofs.Filling.{Summed, sum_begins, sum_inside, sum_small, sum_goes, sum_ends}
+use native.Mathlib.Omega.{arith}
+use Rattle.strings.proofs.Filling.{Summed, sum_begins, sum_goes}
+use native.Mathlib.Omega.{arith}
+use mathlib.Core.Path.{refl}
+use Rattle.strings.proofs.sum_of.Given as goal
+
+abbrev pub invariant-loop-left : goal.invariant-loop-left
+invariant-loop-left l = Summed l.lengths l.right l.left l.sum
+
+abbrev pub decreases-loop-left : goal.decreases-loop-left
+decreases-loop-left l = l.left
