@@ -54,6 +54,7 @@ total_less f g (Y ∷ α) X (Memᴰ.head e) each less =
     omega (arith, total_no_more f g α (λ Z m. each Z (Memᴰ.tail m)))
 total_less f g (Y ∷ α) X (Memᴰ.tail m) each less =
     omega (arith, each Y (Memᴰ.head refl), total_less f g α X m (λ Z i. each Z (Memᴰ.tail i)) less)
+total_less f g [] X x3 each less = elim x3 [ ]
 
 pub total_same : (f g : ℕ → ℕ) (α : List ℕ) → ((X : ℕ) → Memᴰ X α → f X ≡ g X) → total f α ≡ total g α
 total_same f g α each =

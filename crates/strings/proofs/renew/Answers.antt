@@ -7,6 +7,7 @@ use native.Mathlib.Omega.{arith}
 use mathlib.Core.Logic.{⊎_elim}
 use mathlib.Core.Path.{refl, sym, ◌∙◌}
 use Rattle.strings.proofs.renew.Goals as goal
+use Rattle.strings.proofs.renew.Goals.{then-lengths-k, else-lengths-k}
 
 pub loop-k-init : goal.loop-k-init
 loop-k-init c = (omega arith, renew_begins)
@@ -34,10 +35,10 @@ loop-k-preserved c = (
   omega (arith, c.loop-k-test.true),
   renew_goes (omega (arith, c.loop-k.invariant.1.size, c.requires.count_in_bounds_2, c.loop-k-test.true)) c.loop-k.invariant.1 refl
       (λ f.
-      ⊎_elim
-      (λ w. differs w.1 f)
-      (λ w. (sym w.1 ∙ f, w.0.left))
-      c.if-lengths-k.branch),
+      elim c.if-lengths-k.branch [
+        | then-lengths-k w ↦ differs w.changed-is f
+        | else-lengths-k w ↦ (sym w.changed-is ∙ f, w.if-lengths-k.false)
+      ]),
 )
 
 pub shape_of-lengths : goal.shape_of-lengths

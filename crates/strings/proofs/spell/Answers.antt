@@ -60,7 +60,7 @@ offset_bounds-tokens-end c =
       arith,
       spelling_room c.loop-left.invariant.1 (omega (arith, c.if-left-eq0.false)) c.if-x-lt64.true,
       c.requires.room,
-      c.well-formed,
+      c.well_formed,
     )
 
 pub bounds-tokens-end : goal.bounds-tokens-end
@@ -78,7 +78,7 @@ overflow_add-end c =
       arith,
       spelling_room c.loop-left.invariant.1 (omega (arith, c.if-left-eq0.false)) c.if-x-lt64.true,
       c.requires.room,
-      c.well-formed,
+      c.well_formed,
     )
 
 pub loop-left-smaller-then-x-lt64 : goal.loop-left-smaller-then-x-lt64
