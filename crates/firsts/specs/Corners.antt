@@ -31,3 +31,4 @@ module _ (ws : List ℕ) (s : Shaped ws) (null : ℕ) (nulls : NullMask (RuleOf 
   begins_corner Q (All.also {x = Y} c a) (Begins.past n b) f =
       let k = null_hears ws s null nulls Y c n in
       begins_corner Q a b (λ X o. f X (Corner.past k.0 k.1 o))
+  begins_corner Q All.nothing x5 f = elim x5 [ ]

@@ -58,6 +58,7 @@ module _ (ws : List ℕ) (s : Shaped ws) (null : ℕ) (nulls : NullMask (RuleOf 
     held_at k t (Begins.here (inl h)) = absurd (let i = h.0 in omega arith)
     held_at k t (Begins.here (inr h)) =
         let e : 64 + k - 64 ≡ k = omega arith in subst (λ n. member (get_or l n 0) t ≡ true) e h.1
+    held_at k t (Begins.past _ x6) = elim x6 [ ]
 
     complete : (k t : ℕ) → First (RuleOf ws) ((64 + k) ∷ []) t → member (get_or l k 0) t ≡ true
     complete k t f =

@@ -106,6 +106,7 @@ module _ (null : ℕ) (firsts : List ℕ) where
     pub begins_open : {base : ℕ} {α : List ℕ} → All Hears α → Begins Null Begin α → Opens null firsts base t α
     begins_open (All.also s a) (Begins.here h) = ⊎_elim (λ k. Opens.token k.0 k.1) (λ k. Opens.first k.0 k.1) (s.begin h)
     begins_open (All.also s a) (Begins.past n b) = let k = s.fades n in Opens.past k.0 k.1 (begins_open a b)
+    begins_open All.nothing x3 = elim x3 [ ]
 
     pub behind_open : {base : ℕ} {α : List ℕ} → All Hears α → All Null α → member base t ≡ true → Opens null firsts base t α
     behind_open a All.nothing m = Opens.behind m

@@ -1,0 +1,13 @@
+use native.Mathlib.Omega.{arith}
+use Prim.Native.Nat.{◌-◌}
+use mathlib.Core.Path.{sym, ◌∙◌}
+use lib.ListN.{drop}
+use Rattle.grammar.specs.Words.{right_side}
+use Rattle.firsts.specs.Fronts.{Fronted, front_begins, front_at, front_token, front_past, front_stop, front_ends}
+use Rattle.firsts.proofs.first_with.Given as goal
+
+abbrev pub invariant-loop-i : goal.invariant-loop-i
+invariant-loop-i l = Fronted l.null l.firsts l.base (right_side l.words l.p) (drop l.i (right_side l.words l.p)) l.set
+
+abbrev pub decreases-loop-i : goal.decreases-loop-i
+decreases-loop-i l = l.size - l.i

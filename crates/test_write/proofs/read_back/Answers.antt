@@ -1,0 +1,12 @@
+-- `test_write::read_back` is safe and ends: the parts that it lends lie within the bytes and the buffer.
+use native.Mathlib.Omega.{arith}
+use native.Mathlib.Omega.{arith}
+use mathlib.Core.Path.{sym}
+use lib.Seq.{length-take-le}
+use Rattle.test_write.proofs.read_back.Goals as goal
+
+pub slice_bounds-read-end : goal.slice_bounds-read-end
+slice_bounds-read-end c = sym (length-take-le _ _ c.if-bytes-size.false)
+
+pub slice_bounds-read-end-3 : goal.slice_bounds-read-end-3
+slice_bounds-read-end-3 c = sym (length-take-le _ _ (omega (arith, c.put_old.auto.words)))
