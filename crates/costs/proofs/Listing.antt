@@ -50,7 +50,7 @@ some_or_none (X ∷ α) =
     only k low none (Memᴰ.tail m) = none m
 
 -- A member costs no more than all.
-part_of : (f : ℕ → ℕ) {α : List ℕ} {X : ℕ} → Memᴰ X α → f X ≤ total f α
+part_of : (f : ℕ → ℕ) {X : ℕ} {α : List ℕ} → Memᴰ X α → f X ≤ total f α
 unfolding total
 part_of f (Memᴰ.head e) = omega (arith, ap f e)
 part_of f (Memᴰ.tail m) = omega (arith, part_of f m)

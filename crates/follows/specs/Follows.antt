@@ -87,6 +87,7 @@ module _
 
     end_first : (t : ℕ) → Begins (Fades (RuleOf ws)) (Starts (RuleOf ws) t) (END ∷ []) → END ≡ t
     end_first t (Begins.here h) = terminal_first (RuleOf ws) (rule_left ws) END t (omega arith) h
+    end_first t (Begins.past _ x6) = elim x6 [ ]
 
     begins : (t : ℕ) → Followed (Fades (RuleOf ws)) (Starts (RuleOf ws) t) (Behind t) ⊥ start_over_end
     begins t =

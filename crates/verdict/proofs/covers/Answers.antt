@@ -10,18 +10,8 @@ use Rattle.base.specs.Telling.{Tells, tells_eq}
 use Rattle.sets.specs.Bits.{member}
 use Rattle.sets.specs.Operations.{Below, Beyond}
 use Rattle.sets.specs.Laws.{empty_none, some_member}
-use borrow.Author.Rules.{rules}
-use Rattle.verdict.proofs.covers.Statement.{statement}
-use Rattle.verdict.proofs.covers.Tie as tie
-
-nonterminal-count-requires : tie.Need-nonterminal-count-requires
-nonterminal-count-requires c κs = search rules
-
-below-requires : tie.Need-below-requires
-below-requires c κs = search rules
-
-beyond-requires : tie.Need-beyond-requires
-beyond-requires c κs = search rules
+use Rattle.std.proofs.Common.{rules}
+use Rattle.verdict.proofs.covers.Goals as goal
 
 -- Nothing of the set is beyond the mask exactly where all of it is in the mask.
 covered : {n all mask rest : ℕ} → rest < 2 ^ 64 → Below n all → Beyond all mask rest
@@ -44,12 +34,8 @@ covered {n} {all} {mask} {rest} small below beyond = tells_eq rest 0 (λ e k h. 
         absurd (out.1 (f found.number ((below.exact found.number).0 out.0))))
         (below_or rest 1)
 
-returns : tie.Need-returns
+pub returns : goal.returns
 returns c =
     let small : c.beyond.result < 2 ^ 64 = search rules in covered small
-    (subst (λ n. Below n c.before.below.result) c.before.before.nonterminal-count.ensures c.before.below.ensures)
+    (subst (λ n. Below n c.below.result) c.nonterminal_count.ensures c.below.ensures)
     c.beyond.ensures
-
-pub covers-spec : {M : Type 1} → statement M
-covers-spec =
-    tie.close (tie.spec nonterminal-count-requires below-requires beyond-requires returns)

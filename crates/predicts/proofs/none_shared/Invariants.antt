@@ -1,0 +1,13 @@
+use native.Mathlib.Omega.{arith}
+use Prim.Native.Nat.{◌-◌}
+use mathlib.Core.Path.{◌≡◌, sym, ◌∙◌}
+use lib.ListN.{length}
+use Rattle.base.specs.Telling.{told, denied}
+use Rattle.predicts.specs.Seen.{Seen, seen_begins, seen_goes, seen_fails, seen_ends}
+use Rattle.predicts.proofs.none_shared.Given as goal
+
+abbrev pub invariant-loop-p : goal.invariant-loop-p
+invariant-loop-p l = (length l.seen ≡ 64) × Seen l.words l.p l.seen
+
+abbrev pub decreases-loop-p : goal.decreases-loop-p
+decreases-loop-p l = l.count - l.p

@@ -1,0 +1,13 @@
+use native.Mathlib.Omega.{arith}
+use Prim.Native.Nat.{◌-◌, ◌<◌}
+use mathlib.Core.Path.{sym, ◌∙◌}
+use lib.ListN.{length-set}
+use Rattle.grammar.specs.Words.{right_side}
+use Rattle.verdict.specs.Rows.{RowTo, row_begins, row_goes, row_ends, row_room}
+use Rattle.verdict.proofs.rows.write_row.Given as goal
+
+abbrev pub invariant-loop-i : goal.invariant-loop-i
+invariant-loop-i l = RowTo (right_side l.words l.p) l.link l.i l.row l.right
+
+abbrev pub decreases-loop-i : goal.decreases-loop-i
+decreases-loop-i l = l.size - l.i

@@ -1,0 +1,11 @@
+-- `verdict::unaffordable` meets its contract.
+use native.Mathlib.Omega.{arith}
+use mathlib.Core.Path.{◌≡◌, refl}
+use Rattle.verdict.specs.Prices.{Dear}
+use Rattle.verdict.proofs.unaffordable.Goals as goal
+
+pub returns-then-within : goal.returns-then-within
+returns-then-within c = Dear.string (c.within.ensures.yes c.if-within.true) refl
+
+pub returns : goal.returns
+returns c = Dear.none (c.within.ensures.no c.if-within.false) refl
