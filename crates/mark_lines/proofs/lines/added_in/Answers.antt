@@ -11,7 +11,7 @@ pub loop-i-init : goal.loop-i-init
 loop-i-init c = counting_begins _
 
 pub loop-i-preserved : goal.loop-i-preserved
-loop-i-preserved c = elim c.if-words-i-ge-ADDED.branch [ then-words-i-ge-ADDED w ↦ counting_adds c.loop-i.invariant c.loop-i-test.true w.if-words-i-ge-ADDED.true w.1 | else-words-i-ge-ADDED w ↦ counting_keeps c.loop-i.invariant c.loop-i-test.true w.if-words-i-ge-ADDED.false w.1 ]
+loop-i-preserved c = elim c.if-words-i-ge-ADDED.branch [ then-words-i-ge-ADDED w ↦ counting_adds c.loop-i.invariant c.loop-i-test.true w.if-words-i-ge-ADDED.true w.added-is | else-words-i-ge-ADDED w ↦ counting_keeps c.loop-i.invariant c.loop-i-test.true w.if-words-i-ge-ADDED.false w.added-is ]
 
 pub returns : goal.returns
 returns c = counting_ends c.loop-i.invariant c.loop-i-test.false
