@@ -1,6 +1,9 @@
--- What a part did to the bytes that the reader had left: `count_taken` where the read answered a count, `none_taken` where it failed.
-use Rattle.std.specs.Prelude.{ℕ, zero, suc, ◌<◌, ◌≤◌, min, ◌≡◌, refl, List, [], ℤ, pos, negsuc, length, take, Option, None, Some}
-use Rattle.std.proofs.Common.{arith, sym, subst}
+-- What reads did to the bytes that the reader had left.
+--     count_taken, none_taken    a part, where the read answered a count, and where it failed
+--     nothing_taken, more_taken  parts, one behind the other
+--     all_taken                  the parts up to the end are all that the reader had
+use Rattle.std.specs.Prelude.{ℕ, zero, suc, ◌<◌, ◌≤◌, min, ◌≡◌, refl, List, [], ◌++◌, ℤ, pos, negsuc, length, take, Option, None, Some, IfSome}
+use Rattle.std.proofs.Common.{arith, sym, subst, append-nil, append_assoc}
 use Rattle.std.specs.Io.KnownBytes.{Consumes, IsAtEnd, Keeps}
 use Rattle.input.specs.declared.Part.{Part}
 use Rattle.input.specs.declared.Part.TheVariants.{Failed}
@@ -31,3 +34,24 @@ pub none_taken : (old new : Option (List ℕ)) (space : List ℕ) (n : ℕ) (z :
 unfolding part_of
 none_taken old new space n z part is e t =
     let same : Failed ≡ part = cc in subst (λ (p : Part). PartTaken old new space p) same t
+
+pub nothing_taken : (had : Option (List ℕ)) → Consumes had had []
+nothing_taken None = tt
+nothing_taken (Some xs) = refl
+
+pub more_taken : (had mid left : Option (List ℕ)) (front part : List ℕ) → Consumes had mid front → Consumes mid left part
+    → Consumes had left (front ++ part)
+more_taken None mid left front part s t = tt
+more_taken (Some xs) None left front part s t = elim s [ ]
+more_taken (Some xs) (Some ys) None front part s t = elim t [ ]
+more_taken (Some xs) (Some ys) (Some zs) front part s t = rw append_assoc (cc)
+
+pub all_taken : (Holds : List ℕ → Type 0) (had mid left : Option (List ℕ)) (front : List ℕ) → Consumes had mid front → Keeps mid left
+    → IsAtEnd left → Holds front → IfSome had Holds
+all_taken Holds None mid left front s k e h = tt
+all_taken Holds (Some xs) None left front s k e h = elim s [ ]
+all_taken Holds (Some xs) (Some ys) None front s k e h = elim k [ ]
+all_taken Holds (Some xs) (Some ys) (Some zs) front s k e h =
+    let joined : xs ≡ front ++ [] = cc in
+    let all : front ≡ xs = sym (simp append-nil at joined) in
+    subst Holds all h
