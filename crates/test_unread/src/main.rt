@@ -4,6 +4,7 @@
 use std::io::{Error, ErrorKind, Read};
 
 // An input of which each read fails.
+#[derive(Drop)]
 struct Unreadable;
 
 impl Read for Unreadable {
