@@ -24,10 +24,10 @@ stored_nothing had room =
       taken = nothing_taken had;
     }
 
-pub stored_more : (had mid left : Option (List ℕ)) {before room after : List ℕ} {size next n : ℕ} (space : List ℕ)
+pub stored_more : (had mid left : Option (List ℕ)) {before room after : List ℕ} {size next : ℕ} (n : ℕ) (space : List ℕ)
     → Appends room size (take n space) after next → PartTaken mid left space (Bytes n) → Stored had mid before size room
     → Stored had left before next after
-stored_more had mid left {before} {n = n} space appends taken stored =
+stored_more had mid left {before} n space appends taken stored =
     record {
       front = stored.front ++ take n space;
       wrote = appends.goes before stored.front stored.wrote;

@@ -6,15 +6,12 @@ use Rattle.printing.proofs.read_input.Goals as goal
 pub loop-turns-init : goal.loop-turns-init
 loop-turns-init g c = record { same_length = refl; within = omega arith; stored = stored_nothing _ _ }
 
-pub slice_bounds-keep-end : goal.slice_bounds-keep-end
-slice_bounds-keep-end g c = c.in-Bytes.ensures.fits.1
-
 pub loop-turns-preserved : goal.loop-turns-preserved
 loop-turns-preserved g c =
     record {
-      same_length = c.keep.auto.room ∙ c.loop-turns.invariant.same_length;
-      within = c.keep.ensures.within;
-      stored = stored_more _ _ _ _ c.keep.ensures c.in-Bytes.ensures.taken c.loop-turns.invariant.stored;
+      same_length = c.keep-size.auto.room ∙ c.loop-turns.invariant.same_length;
+      within = c.keep-size.ensures.within;
+      stored = stored_more _ _ _ _ _ c.keep-size.ensures c.in-Bytes.ensures.taken c.loop-turns.invariant.stored;
     }
 
 pub returns-in-End-clause-kept : goal.returns-in-End-clause-kept
