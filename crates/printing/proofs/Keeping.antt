@@ -1,7 +1,7 @@
 -- An input that is kept, and what its reader has left of it: before the first part, behind one more, and at the end.
-use Rattle.std.specs.Prelude.{ℕ, ◌<◌, ◌≡◌, refl, List, [], ◌++◌, length, take, drop, Option}
+use Rattle.std.specs.Prelude.{ℕ, ◌<◌, ◌≡◌, List, [], ◌++◌, length, take, Option}
 use Rattle.std.proofs.Common.{arith, sym, ap, take_all}
-use Rattle.std.specs.Io.KnownBytes.{Consumes, IsAtEnd}
+use Rattle.std.specs.Io.KnownBytes.{Consumes}
 use Rattle.input.proofs.Taken.{nothing_taken, more_taken, all_taken}
 use Rattle.input.specs.Parts.{PartTaken}
 use Rattle.input.specs.declared.Part.TheVariants.{Bytes, End}
