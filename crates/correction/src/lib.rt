@@ -19,7 +19,7 @@ pub fn token_at(log: &[u16], place: usize) -> u16
 }
 
 // "The search for r and i yields either a hit with both numbers or nothing to use at this token."
-#[derive(Drop)]
+#[derive(Clone, Copy)]
 enum Search {
     Hit(usize, usize),
     Nothing,
@@ -95,7 +95,7 @@ fn pop(masks: &[u64], stack: &[u16], edits: &mut [u16], p: Parser, r: usize, i: 
 }
 
 // The state behind a correction; or its records do not fit.
-#[derive(Drop)]
+#[derive(Clone, Copy)]
 pub enum Corrected {
     On(Parser),
     Full,

@@ -11,7 +11,7 @@ use verdict::Checked;
 
 // The answer: of how many nonterminals cost and rule stand in the buffers, or a refusal. `desk_of` of specs/Answer.antt says what each
 // stands for.
-#[derive(Drop)]
+#[derive(Clone, Copy)]
 pub enum Desk {
     Listed(usize),
     Refused(Refusal),

@@ -22,7 +22,7 @@ use block::{BLOCK_BYTES, BLOCK_WORDS, CHECK, FIRST_WORD, USE_COUNT};
 use grammar::Refusal;
 
 // The answer: the number of words read, or a refusal. `reading_of` of specs/Answer.antt says what each stands for.
-#[derive(Drop)]
+#[derive(Clone, Copy)]
 pub enum Reading {
     Words(usize),
     Refused(Refusal),

@@ -5,7 +5,7 @@ ghost use Rattle.std.specs.Prelude.{◌≡◌};
 ghost use Rattle.grammar.specs.Refusals.{number_of};
 
 // Document 01, "Refusal numbers", and the refusals of document 02. `number_of` of specs/Refusals.antt and `number_of` give each its number.
-#[derive(Drop)]
+#[derive(Clone, Copy)]
 pub enum Refusal {
     // 1: the file is empty, not a multiple of 512, or over 5,632 bytes.
     BadSize,
@@ -69,7 +69,7 @@ pub fn number_of(refusal: Refusal) -> u32
 }
 
 // Document 01, "Moves": what a run counts: moves, edit records and rule numbers listed.
-#[derive(Drop)]
+#[derive(Clone, Copy)]
 pub struct Counts {
     pub moves: usize,
     pub records: usize,
@@ -77,14 +77,14 @@ pub struct Counts {
 }
 
 // Document 01, "Pace": a station without a clean cycle is idle and carries no time.
-#[derive(Drop)]
+#[derive(Clone, Copy)]
 pub enum Pace {
     Idle,
     Mean(f64),
 }
 
 // Document 01, "Pace": the count of clean cycles, the sum of their times in ms, and a pace.
-#[derive(Drop)]
+#[derive(Clone, Copy)]
 pub struct Report {
     pub count: u32,
     pub sum: u64,

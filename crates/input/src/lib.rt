@@ -6,7 +6,7 @@ ghost use Rattle.std.specs.Prelude.{◌≡◌, length};
 ghost use Rattle.input.specs.Parts.{PartFits, part_of};
 
 // What a read came to. `part_of` of specs/Parts.antt says which is which.
-#[derive(Drop)]
+#[derive(Clone, Copy)]
 pub enum Part {
     Bytes(usize),
     End,

@@ -8,14 +8,14 @@ use file::Reading;
 use grammar::Refusal;
 
 // Where the blocks end and the entries begin, or refusal 1. `end_of` of specs/Answer.antt says what each stands for.
-#[derive(Drop)]
+#[derive(Clone, Copy)]
 pub enum Blocks {
     EndAt(usize),
     Refused(Refusal),
 }
 
 // How many words, tokens and ticks an input was taken apart into, or the refusal of its count or its file.
-#[derive(Drop)]
+#[derive(Clone, Copy)]
 pub enum Taken {
     Apart(usize, usize, usize),
     Refused(Refusal),

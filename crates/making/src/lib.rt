@@ -12,14 +12,14 @@ use spelling::{Spelled, Spelling};
 use writer::Writing;
 
 // What is known of standard input behind its last read: what its text spells, or that a read failed.
-#[derive(Drop)]
+#[derive(Clone, Copy)]
 pub enum Text {
     Whole(Spelled),
     Unread,
 }
 
 // Where a read leads: further in the text, to its end, or nowhere, since it failed. `Reaches` of specs/Answer.antt says which is which.
-#[derive(Drop)]
+#[derive(Clone, Copy)]
 pub enum Reached {
     Further(Spelled),
     End(Spelled),
@@ -28,7 +28,7 @@ pub enum Reached {
 
 // What a text comes to: so many bytes of the buffer are the grammar file; its words are refused; or one of them, counted from 1, is no
 // number. `Makes` of specs/Answer.antt says what each stands for.
-#[derive(Drop)]
+#[derive(Clone, Copy)]
 pub enum Making {
     File(usize),
     Refused(Refusal),

@@ -25,14 +25,14 @@ use grammar::{Counts, Refusal};
 use parser::{Asking, Parsing};
 
 // The answer: the counts of the parse and the number of tokens, or a refusal. `marking_of` of specs/Answer.antt says what each stands for.
-#[derive(Drop)]
+#[derive(Clone, Copy)]
 pub enum Marking {
     Marked(Counts, usize),
     Refused(Refusal),
 }
 
 // How many words the result has that was put into the buffer, or that it does not fit.
-#[derive(Drop)]
+#[derive(Clone, Copy)]
 enum Put {
     Whole(usize),
     Short,

@@ -20,7 +20,7 @@ ghost use Rattle.moves.specs.Push.{CanPush, Pushed};
 
 // Where a run is: the current place of the log, the symbols on the stack, what is counted, and the window, which shows what lies
 // uppermost on the stack once more (specs/Windows.antt).
-#[derive(Drop)]
+#[derive(Clone, Copy)]
 pub struct Parser {
     pub place: usize,
     pub height: usize,
@@ -166,7 +166,7 @@ const NULLS: usize = 64;
 
 // ---- The choice of move
 
-#[derive(Drop)]
+#[derive(Clone, Copy)]
 enum Pick {
     Match,
     Expand,
@@ -193,7 +193,7 @@ fn choose(top: u16, begins: bool, empty: bool) -> Pick
 
 // Where a token leads: the top is it, with what stood above dropped; or a nonterminal that it begins, which is given too; or it is in
 // error.
-#[derive(Drop)]
+#[derive(Clone, Copy)]
 pub enum Way {
     Fits(Parser),
     Grows(Parser, u16),

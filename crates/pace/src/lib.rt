@@ -26,7 +26,7 @@ use grammar::{Counts, Refusal, Report};
 use parser::{Asking, Parsing};
 
 // The answer: the report with the counts of its parse, or a refusal. `paced_of` of specs/Answer.antt says what each stands for.
-#[derive(Drop)]
+#[derive(Clone, Copy)]
 pub enum Paced {
     Reported(Report, Counts),
     Refused(Refusal),
@@ -36,7 +36,7 @@ pub enum Paced {
 const DELETE: u16 = 1;
 
 // The marks of a cycle, and the restart mark, 0 where there is none.
-#[derive(Drop)]
+#[derive(Clone, Copy)]
 struct Marks {
     opening: u16,
     closing: u16,
@@ -45,7 +45,7 @@ struct Marks {
 
 // What the edit records say of one place: whether one has it, whether its token is deleted, and the first record behind
 // them.
-#[derive(Drop)]
+#[derive(Clone, Copy)]
 struct Here {
     edited: bool,
     deleted: bool,
@@ -54,7 +54,7 @@ struct Here {
 
 // The cycles so far, with the sum of their times in ms. `begun` says that an opening mark was kept at tick `since`, and that
 // behind it no mark and no restart mark was kept and no edit stands: the next closing mark makes a clean cycle.
-#[derive(Drop)]
+#[derive(Clone, Copy)]
 struct Watch {
     begun: bool,
     since: u32,

@@ -23,7 +23,7 @@ use moves::{Parser, Way};
 use verdict::Checked;
 
 // The answer: moves, edit records and rule numbers listed, or a refusal. `parsing_of` of specs/Runs.antt says what each stands for.
-#[derive(Drop)]
+#[derive(Clone, Copy)]
 pub enum Parsing {
     Parsed(Counts),
     Refused(Refusal),
@@ -31,7 +31,7 @@ pub enum Parsing {
 
 // What a caller asks before the run, besides what the parser does: each is true where it holds or is not asked. `asks_by` of
 // specs/Asking.antt says what they stand for.
-#[derive(Drop)]
+#[derive(Clone, Copy)]
 pub struct Asking {
     // Under refusal 10: there are as many ticks as tokens.
     pub timed: bool,
@@ -40,7 +40,7 @@ pub struct Asking {
 }
 
 // The state behind a turn of the run, or the refusal that it meets.
-#[derive(Drop)]
+#[derive(Clone, Copy)]
 enum Turned {
     On(Parser),
     Refused(Refusal),

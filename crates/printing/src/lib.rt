@@ -9,7 +9,7 @@ ghost use Rattle.printing.specs.Input.{InputFits};
 use input::Part;
 
 // What is known of standard input behind its last read: how many of its bytes are kept, or that a read failed.
-#[derive(Drop)]
+#[derive(Clone, Copy)]
 pub enum Input {
     Kept(usize),
     Failed,

@@ -8,7 +8,7 @@ ghost use Rattle.spelling.specs.Text.{Blank, Digit};
 ghost use Rattle.spelling.specs.Answer.{Begun, Finished, Took, WentOn, counted};
 
 // How far a text is spelled, after so many numbers that have ended. `Says` of specs/Answer.antt says what each stands for.
-#[derive(Drop)]
+#[derive(Clone, Copy)]
 pub enum Spelled {
     // No word is begun.
     Between(usize),
@@ -19,7 +19,7 @@ pub enum Spelled {
 }
 
 // The answer: how many words the text has, all of them numbers; or the place, from 1 on, of the first word that is none.
-#[derive(Drop)]
+#[derive(Clone, Copy)]
 pub enum Spelling {
     Words(usize),
     NoNumber(usize),

@@ -31,7 +31,7 @@ mod rows;
 
 // The answer of the check: accepted, or the lowest refusal of 5 to 9 that applies. `check_of` of specs/Answer.antt says what
 // each stands for.
-#[derive(Drop)]
+#[derive(Clone, Copy)]
 pub enum Checked {
     Accepted,
     Refused(Refusal),

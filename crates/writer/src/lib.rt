@@ -19,7 +19,7 @@ use block::{BLOCK_BYTES, BLOCK_WORDS, CHECK, FIRST_WORD, USE_COUNT};
 use grammar::Refusal;
 
 // The answer: the number of bytes written, or a refusal. `writing_of` of specs/Answer.antt says what each stands for.
-#[derive(Drop)]
+#[derive(Clone, Copy)]
 pub enum Writing {
     Bytes(usize),
     Refused(Refusal),

@@ -10,14 +10,14 @@ use Rattle.verdict.proofs.judge_by.Goals as goal
 
 pub reachable-requires : goal.reachable-requires
 reachable-requires c = record {
-      ready = c.requires.ready;
-      clear = c.requires.clear;
-      wide = c.requires.wide;
-      blank = blank_made 64;
-    }
+  ready = c.requires.ready;
+  clear = c.requires.clear;
+  wide = c.requires.wide;
+  blank = blank_made 64;
+}
 
 pub returns-else-reachable : goal.returns-else-reachable
-returns-else-reachable c =    refusing (refused_6 _ c.requires.ready.shaped (c.reachable.ensures.tells.no c.if-reachable.false))
+returns-else-reachable c = refusing (refused_6 _ c.requires.ready.shaped (c.reachable.ensures.tells.no c.if-reachable.false))
 
 pub returns-else-within : goal.returns-else-within
 returns-else-within c =
@@ -27,11 +27,11 @@ returns-else-within c =
 
 pub predictable-requires : goal.predictable-requires
 predictable-requires c = record {
-      asked = record { ready = c.requires.ready; nulls = c.empties-null.ensures; size = c.predictable-arg-1.given.2 };
-      blank = c.reachable.ensures.blank c.if-reachable.true;
-      blank_2 = blank_part 0 64 c.requires.blank_2 (omega arith);
-      reached = c.reachable.ensures.tells.yes c.if-reachable.true;
-    }
+  asked = record { ready = c.requires.ready; nulls = c.empties-null.ensures; size = c.predictable-arg-1.given.2 };
+  blank = c.reachable.ensures.blank c.if-reachable.true;
+  blank_2 = blank_part 0 64 c.requires.blank_2 (omega arith);
+  reached = c.reachable.ensures.tells.yes c.if-reachable.true;
+}
 
 pub returns-else-predictable : goal.returns-else-predictable
 returns-else-predictable c =
@@ -41,7 +41,7 @@ returns-else-predictable c =
     (productive_limited c.costs.ensures limited) (afford_all c.costs.ensures limited) (c.predictable.ensures.tells.no c.if-predictable.false))
 
 pub bounds-sets-64 : goal.bounds-sets-64
-bounds-sets-64 c =    omega (arith, c.sets-1.given.1, c.requires.blank_2.size)
+bounds-sets-64 c = omega (arith, c.sets-1.given.1, c.requires.blank_2.size)
 
 pub returns : goal.returns
 returns c =
@@ -51,8 +51,8 @@ returns c =
     (accepted _ c.requires.ready.shaped (c.reachable.ensures.tells.yes c.if-reachable.true) (productive_limited c.costs.ensures limited)
     (afford_all c.costs.ensures limited) (c.predictable.ensures.tells.yes c.if-predictable.true))
     (record {
-      c.requires.ready = c.requires.ready;
-      c.costs.ensures = c.costs.ensures;
+      ready = c.requires.ready;
+      costed = c.costs.ensures;
       limited = limited;
       exact = sets_filled c.args.sets.now _ _ c.requires.ready.shaped
           c.requires.blank_2.size size c.predictable.ensures.exact c.empties-null.ensures;

@@ -6,11 +6,6 @@ use lib.ListN.{get_or}
 use Rattle.base.specs.Telling.{told, denied}
 use Rattle.verdict.proofs.within.Goals as goal
 
--- In a turn, k is a nonterminal's number.
-low : (c : goal.In-loop-k invariant-loop decreases-loop) → c.loop-k.k < 64
-low c =
-    omega (arith, c.loop-k-test.true, c.requires.shaped.nonterminals_high)
-
 pub nonterminal_count-count-requires : goal.nonterminal_count-count-requires
 nonterminal_count-count-requires c = c.requires.shaped
 
@@ -18,13 +13,13 @@ pub loop-k-init : goal.loop-k-init
 loop-k-init c = λ j h. absurd (omega arith)
 
 pub overflow_add-k : goal.overflow_add-k
-overflow_add-k c = omega (arith, low c)
+overflow_add-k c = omega (arith, c.loop-k-test.true, c.requires.shaped.nonterminals_high)
 
 pub offset_bounds-costs-k : goal.offset_bounds-costs-k
-offset_bounds-costs-k c = omega (arith, low c)
+offset_bounds-costs-k c = omega (arith, c.loop-k-test.true, c.requires.shaped.nonterminals_high)
 
 pub bounds-costs-k : goal.bounds-costs-k
-bounds-costs-k c = omega (arith, low c, c.requires.costed.size)
+bounds-costs-k c = omega (arith, c.loop-k-test.true, c.requires.shaped.nonterminals_high, c.requires.costed.size)
 
 pub returns-then-costs-k : goal.returns-then-costs-k
 returns-then-costs-k c = denied (λ f. let most = f c.loop-k.k (omega arith) in omega arith)

@@ -7,10 +7,6 @@ use Rattle.grammar.specs.Words.{right_side}
 use Rattle.verdict.specs.Rows.{RowTo, row_begins, row_goes, row_ends, row_room}
 use Rattle.verdict.proofs.rows.write_row.Goals as goal
 
--- In a turn, fewer than 8 symbols are written.
-low : (c : goal.In-loop-i invariant-loop decreases-loop) → c.loop-i.i < 8
-low c = omega (arith, c.loop-i-test.true, c.size_of-size.ensures.small)
-
 pub size_of-size-requires : goal.size_of-size-requires
 size_of-size-requires c = record {
   ready = c.requires.ready;
@@ -31,19 +27,19 @@ symbol_at-symbol-requires c = record {
 }
 
 pub offset_bounds-row-i : goal.offset_bounds-row-i
-offset_bounds-row-i c = omega (arith, low c)
+offset_bounds-row-i c = omega (arith, c.loop-i-test.true, c.size_of-size.ensures.small)
 
 pub bounds-row-i : goal.bounds-row-i
-bounds-row-i c = omega (arith, low c, c.loop-i.invariant.sized)
+bounds-row-i c = omega (arith, c.loop-i-test.true, c.size_of-size.ensures.small, c.loop-i.invariant.sized)
 
 pub overflow_mul-right : goal.overflow_mul-right
-overflow_mul-right c = omega (arith, row_room c.loop-i.invariant (low c))
+overflow_mul-right c = omega (arith, row_room c.loop-i.invariant (omega (arith, c.loop-i-test.true, c.size_of-size.ensures.small)))
 
 pub overflow_cast-right : goal.overflow_cast-right
 overflow_cast-right c = omega (arith, c.symbol_at-symbol.ensures.small)
 
 pub overflow_add-right : goal.overflow_add-right
-overflow_add-right c = omega (arith, row_room c.loop-i.invariant (low c), c.symbol_at-symbol.ensures.small)
+overflow_add-right c = omega (arith, row_room c.loop-i.invariant (omega (arith, c.loop-i-test.true, c.size_of-size.ensures.small)), c.symbol_at-symbol.ensures.small)
 
 pub loop-i-preserved : goal.loop-i-preserved
 loop-i-preserved c = row_goes c.loop-i.invariant c.size_of-size.ensures.is c.size_of-size.ensures.small c.loop-i-test.true c.symbol_at-symbol.ensures.is c.symbol_at-symbol.ensures.small
