@@ -1,2 +1,2 @@
 -- What the functions' proofs cite: from the answers of the functions called to what the exported ones promise.
-mod Answers
+mod Answering

@@ -32,13 +32,13 @@ front_marks word_of room xs =
     ap (λ n. take n (filled room (map word_of xs))) (sym (length-map xs word_of)) ∙ front_of room (map word_of xs)
 
 -- As many words as are told stand in the buffer.
-pub marks_part : {word_of : Mark → ℕ} {Asked : Asks} {ws log es rs ts : List ℕ} {edit_room rule_room token_room : ℕ} {counts : Counts}
+pub marks_part : {word_of : Mark → ℕ} {Asked : Asks} {ws log es rs : List ℕ} {edit_room rule_room token_room : ℕ} {ts : List ℕ} {counts : Counts}
     {n : ℕ} → Marks word_of Asked ws log edit_room rule_room token_room (given (counts, n)) es rs ts → n ≤ length ts
 unfolding filled
 marks_part {word_of} (MarksBy.whole {xs = xs} p m l) = simp length-append (omega (arith, length-map xs word_of))
 
 -- They are no more than the buffer has room for.
-pub marks_few : {word_of : Mark → ℕ} {Asked : Asks} {ws log es rs ts : List ℕ} {edit_room rule_room token_room : ℕ} {counts : Counts}
+pub marks_few : {word_of : Mark → ℕ} {Asked : Asks} {ws log es rs : List ℕ} {edit_room rule_room token_room : ℕ} {ts : List ℕ} {counts : Counts}
     {n : ℕ} → Marks word_of Asked ws log edit_room rule_room token_room (given (counts, n)) es rs ts → n ≤ token_room
 marks_few (MarksBy.whole p m l) = l
 

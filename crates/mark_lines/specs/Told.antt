@@ -52,6 +52,7 @@ module _ (log places : List ℕ) (short : length log ≤ 4096) (named : (p : ℕ
 
   front_from : (x : Mark) (xs : List Mark) → KeptFrom log (x ∷ xs) → KeptFrom log (x ∷ [])
   front_from x xs from p t (Memᴰ.head e) = from p t (Memᴰ.head e)
+  front_from x xs from p t (mathlib.Core.List.Memᴰ.tail x5) = elim x5 [ ]
 
   pub all_told : (xs : List Mark) → KeptFrom log xs → marks_in log (map (word_by places 4096) xs) ≡ xs
   all_told [] from = refl

@@ -1,0 +1,8 @@
+-- `pace::Watch::spoiled` meets its contract: the struct that it makes is `spoiled_by`'s.
+use Rattle.std.proofs.Common.{refl}
+use Rattle.pace.specs.Watch.{spoiled_by}
+use Rattle.pace.proofs.Watch.spoiled.Goals as goal
+
+pub returns : goal.returns
+unfolding spoiled_by
+returns c = refl

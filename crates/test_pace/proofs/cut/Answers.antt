@@ -1,0 +1,20 @@
+-- `test_pace::cut` is safe: the parts that it lends lie within the slices.
+use mathlib.Core.Path.{sym}
+use lib.Seq.{length-take-le}
+use Rattle.std.proofs.Common.{rules}
+use Rattle.test_pace.proofs.cut.Goals as goal
+
+pub slice_bounds-run-end : goal.slice_bounds-run-end
+slice_bounds-run-end c = sym (length-take-le _ _ c.if-words-count.false)
+
+pub slice_bounds-run-end-2 : goal.slice_bounds-run-end-2
+slice_bounds-run-end-2 c = sym (length-take-le _ _ c.if-log-tokens.false)
+
+pub slice_bounds-run-end-3 : goal.slice_bounds-run-end-3
+slice_bounds-run-end-3 c = sym (length-take-le _ _ c.if-ticks-timed.false)
+
+pub slice_bounds-run-end-5 : goal.slice_bounds-run-end-5
+slice_bounds-run-end-5 c = sym (length-take-le _ _ c.if-edits-e.false)
+
+pub slice_bounds-run-end-7 : goal.slice_bounds-run-end-7
+slice_bounds-run-end-7 c = sym (length-take-le _ _ c.if-rules-r.false)

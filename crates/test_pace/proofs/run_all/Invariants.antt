@@ -1,0 +1,13 @@
+use mathlib.Core.Path.{◌≡◌, refl, ◌∙◌}
+use lib.ListN.{length}
+use Rattle.test_pace.proofs.run_all.Given as goal
+
+abbrev pub invariant-loop-turns : goal.invariant-loop-turns
+invariant-loop-turns l = (length l.words ≡ length l.initial.words)
+    × (length l.log ≡ length l.initial.log)
+    × (length l.ticks ≡ length l.initial.ticks)
+    × (length l.edits ≡ length l.initial.edits)
+    × (length l.rules ≡ length l.initial.rules)
+
+abbrev pub decreases-loop-turns : goal.decreases-loop-turns
+decreases-loop-turns l = l.turns

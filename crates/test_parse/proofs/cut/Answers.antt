@@ -1,0 +1,17 @@
+-- `test_parse::cut` is safe: the parts that it lends lie within the slices.
+use mathlib.Core.Path.{sym}
+use lib.Seq.{length-take-le}
+use Rattle.std.proofs.Common.{rules}
+use Rattle.test_parse.proofs.cut.Goals as goal
+
+pub slice_bounds-run-end : goal.slice_bounds-run-end
+slice_bounds-run-end c = sym (length-take-le _ _ c.if-words-count.false)
+
+pub slice_bounds-run-end-2 : goal.slice_bounds-run-end-2
+slice_bounds-run-end-2 c = sym (length-take-le _ _ c.if-log-tokens.false)
+
+pub slice_bounds-run-end-4 : goal.slice_bounds-run-end-4
+slice_bounds-run-end-4 c = sym (length-take-le _ _ c.if-edits-e.false)
+
+pub slice_bounds-run-end-6 : goal.slice_bounds-run-end-6
+slice_bounds-run-end-6 c = sym (length-take-le _ _ c.if-rules-r.false)
