@@ -51,7 +51,7 @@ use Rattle.grammar.proofs.Theory.SameCycles as SameCycles
 use Rattle.grammar.proofs.Theory.SixWords as SixWords
 use Rattle.grammar.proofs.Theory.Told.{told}
 use Rattle.grammar.proofs.Theory.Unpaced as Unpaced
-use Rattle.grammar.proofs.Theory.SixWords.{six_words}
+use Rattle.grammar.specs.Theory.SixWords.{six_words}
 use Rattle.grammar.specs.Theory.Requests.{EarlierRunOf}
 
 -- ======== (i) Write grammar files too

@@ -10,36 +10,14 @@ use Rattle.std.proofs.Math.ListN.{take}
 use Rattle.grammar.specs.Words.{END, word, RuleSymbol, Marks, Restart, Shaped, TerminalWords, RuleWords}
 use Rattle.grammar.specs.Words.{nonterminal_count, rule_count, opening, closing, tick_unit}
 use Rattle.grammar.specs.Words.{insert_cost, reliability, rule_place, left_side, right_size, right_side}
-use Rattle.grammar.specs.Grammar.{Grammar, RuleOf, Reliable, start_over_end, grammar_of, conditions_of, Meaning, meaning_of}
+use Rattle.grammar.specs.Grammar.{RuleOf, Reliable, grammar_of, meaning_of}
 use Rattle.grammar.proofs.Theory.Headers.{short_terminals, short_size, short_restart}
 use Rattle.grammar.proofs.Theory.Meanings.{Alike}
 use Rattle.grammar.proofs.Theory.Meanings.{same_conditions}
 use Rattle.grammar.proofs.Theory.SameGrammars.{SameGrammar}
-use Rattle.grammar.specs.Theory.SixWords.{six_place, SixRule, SixTerminal, SixRuleWords, SixShaped}
+use Rattle.grammar.specs.Theory.SixWords.{six_place, SixRule, SixTerminal, SixRuleWords, SixShaped, six_grammar, six_words}
 
 -- ---- What 01 says
-
-abbrev pub six_grammar : List ℕ → Grammar
-six_grammar ws = record {
-  known = RuleSymbol (word ws 0) (word ws 1);
-  rules = SixRule ws;
-  begin = start_over_end;
-  price = λ t. word ws (6 + 2 * t);
-  reliable = λ c t. (t ≡ END) ⊎ (c < word ws (6 + 2 * t + 1));
-}
-
--- No word is a restart mark.
-abbrev pub six_words : List ℕ → Meaning
-six_words ws = record {
-  conditions = conditions_of (SixShaped ws) (word ws 1) (six_grammar ws);
-  terminals = word ws 0;
-  nonterminals = word ws 1;
-  grammar = six_grammar ws;
-  opening = word ws 3;
-  closing = word ws 4;
-  restart = 0;
-  unit = word ws 5;
-}
 
 pub same_unit : (ws : List ℕ) → (meaning_of ws).unit ≡ (six_words ws).unit
 unfolding tick_unit

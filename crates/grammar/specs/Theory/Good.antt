@@ -1,5 +1,5 @@
 -- What the theory needs of an accepted grammar: right sides of any length up to R, any first stack that ends with END.
--- Every theorem from here on is about such a grammar; `accepted-good` says that the words of an accepted grammar are one.
+-- Every theorem from here on is about such a grammar; `good_words` says that the words of an accepted grammar are one.
 use Rattle.std.specs.Prelude.{ℕ, ◌+◌, ◌-◌, ◌≤◌, ◌<◌, ◌≡◌, List, [], ◌∷◌, ◌++◌, length, drop}
 use Rattle.std.proofs.Math.Path.{refl}
 use Rattle.std.proofs.Common.{sym, ◌∙◌, subst, append_assoc, arith}

@@ -2,7 +2,9 @@
 use Prim.Native.Nat.{ℕ, zero, suc, ◌+◌, ◌*◌, ◌≤◌, ◌<◌}
 use Rattle.std.specs.Prelude.{◌≡◌, List, length, drop}
 use Rattle.std.proofs.Math.ListN.{take}
-use Rattle.grammar.specs.Words.{word, RuleSymbol, Marks}
+use Rattle.std.specs.Prelude.{◌⊎◌}
+use Rattle.grammar.specs.Words.{END, word, RuleSymbol, Marks}
+use Rattle.grammar.specs.Grammar.{Grammar, Meaning, conditions_of, start_over_end}
 
 -- Where rule p stands.
 unfoldable pub six_place : List ℕ → ℕ → ℕ
@@ -38,3 +40,25 @@ pub record SixShaped (ws : List ℕ) : Type 0 where
   pub terminals : (t : ℕ) → 1 ≤ t → t < word ws 0 → SixTerminal ws t
   pub rules : (p : ℕ) → p < word ws 2 → SixRuleWords ws p
   pub whole : six_place ws (word ws 2) ≡ length ws
+
+abbrev pub six_grammar : List ℕ → Grammar
+six_grammar ws = record {
+  known = RuleSymbol (word ws 0) (word ws 1);
+  rules = SixRule ws;
+  begin = start_over_end;
+  price = λ t. word ws (6 + 2 * t);
+  reliable = λ c t. (t ≡ END) ⊎ (c < word ws (6 + 2 * t + 1));
+}
+
+-- No word is a restart mark.
+abbrev pub six_words : List ℕ → Meaning
+six_words ws = record {
+  conditions = conditions_of (SixShaped ws) (word ws 1) (six_grammar ws);
+  terminals = word ws 0;
+  nonterminals = word ws 1;
+  grammar = six_grammar ws;
+  opening = word ws 3;
+  closing = word ws 4;
+  restart = 0;
+  unit = word ws 5;
+}
