@@ -5,4 +5,3 @@ pub mod Records
 pub mod Popping
 pub mod Corrections
 pub mod Deleting
-pub mod Correcting

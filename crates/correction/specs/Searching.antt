@@ -140,12 +140,6 @@ module _ {S : Sized} {log masks prices : List ℕ} (known : Known S log masks pr
             (le_or_lt i k);
       }
 
-  pub walked_hit : (r i cost : ℕ) → i < length σ → begins_by masks (get_or σ i 0) t ≡ true → cost < limit_by prices t
-      → Walked S prices σ t i cost
-      → SearchOf S σ t r (Hit r i)
-  unfolding SearchOf
-  walked_hit r i cost l b m w = (refl, record { plausible = usable i l b (omega (arith, w.pays)); least = w.none })
-
   pub walked_dear : (r i cost : ℕ) → limit_by prices t ≤ cost → Walked S prices σ t i cost → SearchOf S σ t r Nothing
   unfolding SearchOf
   walked_dear r i cost m w =
@@ -159,7 +153,7 @@ module _ {S : Sized} {log masks prices : List ℕ} (known : Known S log masks pr
 
 module _ {S : Sized} {log masks prices stack : List ℕ} {height : ℕ} (can : CanSearch S log masks prices stack height) (r t : ℕ)
     (at-r : t ≡ get_or log r 0) where
-  short : length (pile stack height) ≤ 256
+  pub short : length (pile stack height) ≤ 256
   short = omega (arith, pile_length stack height, can.low)
 
   pub token_low : t < S.terminals
@@ -168,7 +162,7 @@ module _ {S : Sized} {log masks prices stack : List ℕ} {height : ℕ} (can : C
   pub token_below : t < 64
   token_below = omega (arith, token_low, can.known.terminals_high)
 
-  cell : (i : ℕ) → i < height → get_or (pile stack height) i 0 ≡ get_or stack (height - 1 - i) 0
+  pub cell : (i : ℕ) → i < height → get_or (pile stack height) i 0 ≡ get_or stack (height - 1 - i) 0
   cell i l = pile_at stack height i l ∙ ap (λ k. get_or stack k 0) (omega arith)
 
   symbol_of_lem : (i : ℕ) → i < height → SymbolOf S (get_or stack (height - 1 - i) 0)
@@ -207,17 +201,8 @@ module _ {S : Sized} {log masks prices stack : List ℕ} {height : ℕ} (can : C
       known_limit : (X : ℕ) → SymbolOf S X → get_or prices X 0 ≤ 60000
       known_limit = can.known.shared.cost_limit
 
-  here : (s : Search) → SearchOf S (pile stack height) t r s → SearchOf S (pile stack height) (get_or log r 0) r s
+  pub here : (s : Search) → SearchOf S (pile stack height) t r s → SearchOf S (pile stack height) (get_or log r 0) r s
   here s h = subst (λ u. SearchOf S (pile stack height) u r s) at-r h
-
-  pub seek_hit : (i cost l : ℕ) {b : Bool} → i < height → b ≡ begins_by masks (get_or stack (height - 1 - i) 0) t → b ≡ true
-      → l ≡ limit_by prices t → cost < l → Walked S prices (pile stack height) t i cost
-      → SearchOf S (pile stack height) (get_or log r 0) r (Hit r i)
-  seek_hit i cost l m e n q k w =
-      here (Hit r i) (walked_hit can.known (pile stack height) can.symbols short t token_low r i cost
-      (omega (arith, pile_length stack height))
-      (ap (λ y. begins_by masks y t) (cell i m) ∙ sym e ∙ n)
-      (omega (arith, q, k)) w)
 
   pub seek_dear : (i cost l : ℕ) → l ≡ limit_by prices t → l ≤ cost → Walked S prices (pile stack height) t i cost
       → SearchOf S (pile stack height) (get_or log r 0) r Nothing

@@ -4,9 +4,8 @@ use Prim.Native.Nat.{◌<◌, ◌+◌, ◌-◌}
 use native.Mathlib.Omega.{arith}
 use mathlib.Core.Path.{sym, ◌∙◌, subst}
 use lib.ListN.{length}
-use Rattle.grammar.specs.Theory.Tables.{sized_of}
-use Rattle.correction.specs.Deleting.{Deleted, deleted_none, deleted_more}
-use Rattle.correction.specs.Correcting.{seek_can, record_can, delete_can, pop_can, corrected_full, corrected_on}
+use Rattle.correction.specs.Deleting.{deleted_none, deleted_more}
+use Rattle.correction.proofs.Correcting.{seek_can, record_can, delete_can, pop_can, corrected_full, corrected_on}
 use Rattle.correction.proofs.correct.Goals as goal
 
 pub loop-r-init : goal.loop-r-init

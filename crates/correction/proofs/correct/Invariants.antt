@@ -1,10 +1,7 @@
-use Prim.Native.Nat.{◌<◌, ◌+◌, ◌-◌}
-use native.Mathlib.Omega.{arith}
-use mathlib.Core.Path.{sym, ◌∙◌, subst}
+use Prim.Native.Nat.{◌+◌, ◌-◌}
 use lib.ListN.{length}
 use Rattle.grammar.specs.Theory.Tables.{sized_of}
-use Rattle.correction.specs.Deleting.{Deleted, deleted_none, deleted_more}
-use Rattle.correction.specs.Correcting.{seek_can, record_can, delete_can, pop_can, corrected_full, corrected_on}
+use Rattle.correction.specs.Deleting.{Deleted}
 use Rattle.correction.proofs.correct.Given as goal
 
 abbrev pub invariant-loop-r : goal.invariant-loop-r

@@ -1,9 +1,8 @@
 -- `correction::pop` meets its contract: the k topmost symbols are popped. The measure is what is left of the i.
 use native.Mathlib.Omega.{arith}
-use mathlib.Core.Logic.{⊎_elim}
 use mathlib.Core.Path.{sym, ◌∙◌}
-use Prim.Native.Nat.{◌≤◌, ◌<◌, ◌-◌}
-use Rattle.correction.specs.Popping.{PoppedOf, popped_none, popped_drop, popped_insert, popped_as, popped_all}
+use Prim.Native.Nat.{◌<◌}
+use Rattle.correction.specs.Popping.{popped_none, popped_drop, popped_insert, popped_as, popped_all}
 use Rattle.correction.specs.Popping.{pop_symbol, pop_counts, pop_record}
 use Rattle.correction.proofs.pop.Goals as goal
 use Rattle.correction.proofs.pop.Goals.{then-empty, else-empty}

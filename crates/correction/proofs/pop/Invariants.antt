@@ -1,9 +1,5 @@
-use native.Mathlib.Omega.{arith}
-use mathlib.Core.Logic.{⊎_elim}
-use mathlib.Core.Path.{sym, ◌∙◌}
-use Prim.Native.Nat.{◌≤◌, ◌<◌, ◌-◌}
-use Rattle.correction.specs.Popping.{PoppedOf, popped_none, popped_drop, popped_insert, popped_as, popped_all}
-use Rattle.correction.specs.Popping.{pop_symbol, pop_counts, pop_record}
+use Prim.Native.Nat.{◌≤◌, ◌-◌}
+use Rattle.correction.specs.Popping.{PoppedOf}
 use Rattle.correction.proofs.pop.Given as goal
 
 abbrev pub invariant-loop-k : goal.invariant-loop-k

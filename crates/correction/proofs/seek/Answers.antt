@@ -1,19 +1,8 @@
 use native.Mathlib.Omega.{arith}
-use Prim.Native.Nat.{◌-◌, ◌+◌}
 use mathlib.Core.Path.{ap}
-use Rattle.grammar.specs.Theory.Tables.{sized_of, limit_by}
-use Rattle.moves.specs.Pile.{pile}
-use Rattle.correction.specs.Searching.{
-  Walked,
-  token_below,
-  symbol_low,
-  seek_none,
-  seek_more,
-  seek_fits,
-  seek_hit,
-  seek_dear,
-  seek_all,
-}
+use Rattle.grammar.specs.Theory.Tables.{limit_by}
+use Rattle.correction.specs.Searching.{token_below, symbol_low, seek_none, seek_more, seek_fits, seek_dear, seek_all}
+use Rattle.correction.proofs.Hits.{seek_hit}
 use Rattle.correction.proofs.seek.Goals as goal
 
 pub overflow_add-limit : goal.overflow_add-limit

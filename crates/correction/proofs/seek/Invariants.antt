@@ -1,19 +1,7 @@
-use native.Mathlib.Omega.{arith}
-use Prim.Native.Nat.{◌-◌, ◌+◌}
-use mathlib.Core.Path.{ap}
-use Rattle.grammar.specs.Theory.Tables.{sized_of, limit_by}
+use Prim.Native.Nat.{◌-◌}
+use Rattle.grammar.specs.Theory.Tables.{sized_of}
 use Rattle.moves.specs.Pile.{pile}
-use Rattle.correction.specs.Searching.{
-  Walked,
-  token_below,
-  symbol_low,
-  seek_none,
-  seek_more,
-  seek_fits,
-  seek_hit,
-  seek_dear,
-  seek_all,
-}
+use Rattle.correction.specs.Searching.{Walked}
 use Rattle.correction.proofs.seek.Given as goal
 
 abbrev pub invariant-loop-i : goal.invariant-loop-i
