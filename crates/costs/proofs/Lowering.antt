@@ -11,7 +11,6 @@ use lib.ListN.{length, set, length-set}
 use lib.Seq.{get_or-set_same, get_or-set_other}
 use Rattle.base.specs.Choices.{below_or, same_or}
 use Rattle.grammar.specs.Words.{terminal_count, nonterminal_count, rule_count, left_side, right_side, insert_cost, RuleSymbol, Shaped}
-use Rattle.grammar.specs.Derivation.{All}
 use Rattle.grammar.specs.Grammar.{RuleOf}
 use Rattle.grammar.specs.Theory.Rewriting.{Affords}
 use Rattle.grammar.specs.Theory.Closed.{total}
@@ -25,7 +24,7 @@ use Rattle.sets.specs.Laws.{empty_none, with_same}
 use Rattle.mentions.specs.Mentions.{Mentions}
 use Rattle.costs.specs.Held.{Held, Ruled, SettledAt, cost_sum, entry}
 use Rattle.costs.specs.Settled.{rule_affords, rule_some}
-use Rattle.costs.specs.Visiting.{Waits, Revised, Capped, Chosen, Known, Fell}
+use Rattle.costs.specs.Visiting.{Revised, Capped, Known, Fell}
 use Rattle.costs.proofs.Summing.{total_less, total_no_more, total_same}
 
 -- A number stands in a list or not.

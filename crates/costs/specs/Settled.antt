@@ -6,7 +6,7 @@
 --     rule_is                       the rule that is noted is the cheapest one
 use Rattle.std.specs.Prelude.{ℕ, ◌+◌, ◌-◌, ◌*◌, ◌≤◌, ◌<◌, ◌≡◌, List, [], ◌∷◌, length}
 use Rattle.std.proofs.Math.Path.{refl}
-use Rattle.std.proofs.Common.{sym, ap, ◌∙◌, subst, ⊎_elim}
+use Rattle.std.proofs.Common.{sym, ap, subst, ⊎_elim}
 use native.Mathlib.Omega.{arith}
 use Rattle.base.specs.Choices.{below_or}
 use Rattle.grammar.specs.Words.{Terminal, terminal_count, nonterminal_count, rule_count, left_side, right_side, insert_cost, RuleSymbol, Shaped}

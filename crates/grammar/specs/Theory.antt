@@ -36,3 +36,17 @@ pub mod Ending
 pub mod Places
 pub mod Strings
 pub mod SameRules
+pub mod Behind
+pub mod Demands
+pub mod Desk
+pub mod Earlier
+pub mod Exists
+pub mod Filled
+pub mod Marking
+pub mod MarkAnswers
+pub mod Meanings
+pub mod Rebuilt
+pub mod Refused
+pub mod Requests
+pub mod SixWords
+pub mod Told

@@ -4,7 +4,8 @@
 ghost use Rattle.std.specs.Prelude.{◌≡◌};
 ghost use Rattle.grammar.specs.Refusals.{number_of};
 
-// Document 01, "Refusal numbers", and the refusals of document 02. `number_of` of specs/Refusals.antt and `number_of` give each its number.
+// Document 01, "Refusal numbers", and the refusals of document 02. `number_of` of specs/Refusals.antt says which number each has, and the function
+// `number_of` gives it.
 #[derive(Clone, Copy)]
 pub enum Refusal {
     // 1: the file is empty, not a multiple of 512, or over 5,632 bytes.

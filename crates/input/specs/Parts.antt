@@ -1,8 +1,9 @@
--- What a read of standard input came to.
-use Rattle.std.specs.Prelude.{ℕ, zero, suc, ◌≤◌, min, ◌≡◌, refl, List, true, false, ℤ, pos, negsuc, length, take}
+-- What a read of an input came to.
+use Rattle.std.specs.Prelude.{ℕ, zero, suc, ◌<◌, ◌≤◌, min, ◌≡◌, refl, List, true, false, ℤ, pos, negsuc, length, take, Option}
 use Rattle.std.proofs.Common.{sym, ap, subst, ◌∙◌, true≢false, arith, le-ltb, length-take-le}
 use Rattle.std.proofs.Math.Nat.{min-le_right}
 use Rattle.std.specs.Int.Signed.{lt_z}
+use Rattle.std.specs.Io.KnownBytes.{Consumes, IsAtEnd, Keeps}
 use Rattle.io.specs.Counts.{clamp_len}
 use Rattle.input.specs.declared.Part.{Part}
 use Rattle.input.specs.declared.Part.TheVariants.{Bytes, End, Failed}
@@ -18,6 +19,13 @@ abbrev pub PartFits : List ℕ → Part → Type 0
 PartFits space (Bytes n) = (n ≤ length space) × (n ≡ length (take n space))
 PartFits space End = Unit {0}
 PartFits space Failed = Unit {0}
+
+-- What the read did to the bytes that the reader had left, where they are known: it took as many from their front; at the end there were
+-- none, if the space has room; and a read that failed took none, and tells nothing of the end.
+abbrev pub PartTaken : Option (List ℕ) → Option (List ℕ) → List ℕ → Part → Type 0
+PartTaken old new space (Bytes n) = Consumes old new (take n space)
+PartTaken old new space End = Keeps old new × (0 < length space → IsAtEnd new)
+PartTaken old new space Failed = Keeps old new
 
 -- ---- What the tests of an answer tell: the machine reads z back from its bits, as y
 

@@ -1,9 +1,11 @@
-// Parts of standard input, and lines for standard error. A read that fails is told apart from the end, so that no program takes one for
-// the other.
+// Parts of an input, as standard input, and lines for standard error. A read that fails is told apart from the end, so that no program
+// takes one for the other.
 #![tactic(auto)]
 
 ghost use Rattle.std.specs.Prelude.{◌≡◌, length};
-ghost use Rattle.input.specs.Parts.{PartFits, part_of};
+ghost use Rattle.input.specs.Parts.{PartFits, PartTaken, part_of};
+
+use std::io::Read;
 
 // What a read came to. `part_of` of specs/Parts.antt says which is which.
 #[derive(Clone, Copy)]
@@ -13,11 +15,15 @@ pub enum Part {
     Failed,
 }
 
-// Reads a part of standard input to the front of the space.
-pub fn read_part(space: &mut [u8]) -> Part
-    ensures { PartFits space.new result }
+// Reads a part of the reader's input to the front of the space. Each error is a read that failed, one that a signal interrupts too.
+pub fn read_part<R: Read>(reader: &mut R, space: &mut [u8]) -> Part
+    ensures fits { PartFits space.new result }
+    ensures taken { PartTaken (R.remaining reader.old) (R.remaining reader.new) space.new result }
 {
-    let got = libc::read(0, space);
+    let got = match reader.read(space) {
+        Ok(count) => count as isize,
+        Err(_) => -1,
+    };
     part_of(got, space)
 }
 

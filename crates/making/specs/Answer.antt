@@ -1,5 +1,6 @@
--- What is known of standard input, and what a text of words comes to.
-use Rattle.std.specs.Prelude.{ℕ, ◌+◌, ◌≡◌, List, length, take}
+-- What is known of an input, and what a text of words comes to.
+use Rattle.std.specs.Prelude.{ℕ, ◌+◌, ◌≡◌, List, length, take, Option, IfSome}
+use Rattle.std.specs.Io.KnownBytes.{IsAtEnd}
 use Rattle.grammar.specs.Buffers.{cleared}
 use Rattle.grammar.specs.Refusals.{given, refused}
 use Rattle.grammar.specs.Writing.{FileWritten}
@@ -29,10 +30,16 @@ pub data Reaches (state : Spelled) (part : Part) (space buffer : List ℕ) : Rea
   end : part ≡ End → Reaches state part space buffer (Last state) buffer
   unread : part ≡ Failed → Reaches state part space buffer Nowhere buffer
 
--- The state at the end of standard input is that of a text.
+-- The state at the end of an input is that of a text.
 abbrev pub TextRead : Text → List ℕ → Type 0
 TextRead (Whole state) buffer = Knows state buffer
 TextRead Unread buffer = Unit {0}
+
+-- Where it is known which bytes the reader had, all of them are that text, and the reader has come to their end. Where a read failed, there
+-- is no text.
+abbrev pub TextWhole : Option (List ℕ) → Option (List ℕ) → List ℕ → Text → List ℕ → Type 0
+TextWhole had left old (Whole state) buffer = IfSome had (λ (text : List ℕ). Told old text state buffer) × IsAtEnd left
+TextWhole had left old Unread buffer = Unit {0}
 
 -- The file of the words, or a refusal, as the writer of grammar files gives it.
 pub data FileMade (ws : List ℕ) (room : ℕ) : Making → List ℕ → Type 0 where

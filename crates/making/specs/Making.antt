@@ -106,7 +106,7 @@ module _ (ws : List ℕ) {size most room : ℕ} {writing : Writing} {bytes : Lis
 
 -- ---- The file
 
-written_fits : {cs : List Condition} {content bytes : List ℕ} {room n : ℕ} → Fills cs room content (given n) bytes → n ≤ length bytes
+written_fits : {cs : List Condition} {content : List ℕ} {room n : ℕ} {bytes : List ℕ} → Fills cs room content (given n) bytes → n ≤ length bytes
 unfolding filled
 written_fits (Fills.fill met) = simp length-append (omega arith)
 

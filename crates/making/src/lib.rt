@@ -1,17 +1,18 @@
-// The program `write_grammar` but for its name: document 02, request (i). It reads a text of decimal numbers from standard input to its
-// end and writes the grammar file of these words. A read that fails is never taken for the end: nothing is written then.
+// The program `write_grammar` but for its name: document 02, request (i). It reads a text of decimal numbers from an input, as standard
+// input, to its end and writes the grammar file of these words. A read that fails is never taken for the end: nothing is written then.
 #![tactic(auto)]
 
 ghost use Rattle.std.specs.Prelude.{◌≡◌, ◌≤◌, min, length, take};
 ghost use Rattle.input.specs.Parts.{PartFits};
-ghost use Rattle.making.specs.Answer.{FileMade, Knows, Makes, Reaches, TextRead};
+ghost use Rattle.making.specs.Answer.{FileMade, Knows, Makes, Reaches, TextRead, TextWhole};
 
 use grammar::Refusal;
 use input::Part;
 use spelling::{Spelled, Spelling};
+use std::io::Read;
 use writer::Writing;
 
-// What is known of standard input behind its last read: what its text spells, or that a read failed.
+// What is known of an input behind its last read: what its text spells, or that a read failed.
 #[derive(Clone, Copy)]
 pub enum Text {
     Whole(Spelled),
@@ -35,29 +36,30 @@ pub enum Making {
     NoNumber(usize),
 }
 
-// Writes the grammar file of the words of standard input. Where there is none, standard error gets a line that says why. The words
+// Writes the grammar file of the words of what the reader reads. Where there is none, standard error gets a line that says why. The words
 // have room for one more than a file holds, so that too many are seen; the bytes for the 11 blocks of the longest file.
-pub fn run() {
+pub fn run<R: Read>(reader: &mut R) {
     let mut words = [0u16; 2784];
     let mut bytes = [0u8; 5632];
-    let text = read_text(&mut words);
+    let text = read_text(reader, &mut words);
     match text {
         Text::Whole(state) => make(state, &mut words, &mut bytes),
         Text::Unread => input::tell(b"write_grammar: standard input could not be read\n"),
     }
 }
 
-// Goes through standard input to its end. A proved loop has to end, and nothing says that the input does: the turns are more than any
+// Goes through the reader's input to its end. A proved loop has to end, and nothing says that the input does: the turns are more than any
 // input has.
-fn read_text(words: &mut [u16]) -> Text
-    ensures { TextRead result words.new }
+fn read_text<R: Read>(reader: &mut R, words: &mut [u16]) -> Text
+    ensures known { TextRead result words.new }
+    ensures whole { TextWhole (R.remaining reader.old) (R.remaining reader.new) words.old result words.new }
 {
     let mut space = io::large_buffer();
     let chunk: &mut [u8] = &mut space;
     let mut state = spelling::begin();
     let mut turns: u64 = 18446744073709551615;
     while turns > 0 {
-        let part = input::read_part(chunk);
+        let part = input::read_part(reader, chunk);
         let reached = go_through(state, part, chunk, words);
         match reached {
             Reached::Further(next) => {

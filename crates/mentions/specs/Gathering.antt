@@ -2,11 +2,11 @@
 --     gather_begins, gather_goes, gather_ends   which rules mention a nonterminal
 --     use_begins, use_goes, use_ends            which nonterminals the rules of one mention
 --     mentions_one, uses_one                    both tables are one
-use Rattle.std.specs.Prelude.{ℕ, ◌+◌, ◌*◌, ◌/◌, ◌%◌, ◌^◌, ◌≤◌, ◌<◌, ◌≡◌, refl, Bool, true, ◌⊎◌, ◌↔◌, length, get_or}
-use Rattle.std.proofs.Common.{sym, ap, ◌∙◌, subst, inl, inr, ⊎_elim, arith, ext_get_or}
-use mathlib.Core.List.{List, Memᴰ}
+use Rattle.std.specs.Prelude.{ℕ, ◌+◌, ◌*◌, ◌/◌, ◌%◌, ◌^◌, ◌≤◌, ◌<◌, ◌≡◌, Bool, true, ◌⊎◌, length, get_or}
+use Rattle.std.proofs.Common.{sym, ◌∙◌, subst, inl, inr, ⊎_elim, arith, ext_get_or}
+use mathlib.Core.List.{List}
 use Rattle.base.specs.Choices.{below_or, below_or_at}
-use Rattle.grammar.specs.Words.{rule_count, left_side, right_side, RuleSymbol, Shaped}
+use Rattle.grammar.specs.Words.{rule_count, left_side, RuleSymbol, Shaped}
 use Rattle.grammar.specs.Theory.Members.{all_at}
 use Rattle.grammar.specs.Theory.RightSides.{right_symbols}
 use Rattle.shape.specs.Accessors.{LeftOf}

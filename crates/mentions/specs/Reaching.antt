@@ -18,7 +18,7 @@ use Rattle.sets.specs.Bits.{member}
 use Rattle.sets.specs.Laws.{empty_none, same_members}
 use Rattle.shape.specs.Inside.{left_ranged}
 use Rattle.growth.specs.Along.{Along, Reached, Spent}
-use Rattle.mentions.specs.Mentions.{Mentions, Uses, UsesOf}
+use Rattle.mentions.specs.Mentions.{UsesOf}
 
 -- ---- Sound
 

@@ -1,6 +1,6 @@
 // The printing program: document 01, "The printed listing".
 #![tactic(auto)]
 
-fn main() {
-    printing::run();
+fn main(rt: HostRuntime) {
+    printing::run(&mut rt.stdin());
 }

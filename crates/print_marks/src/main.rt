@@ -1,6 +1,6 @@
 // The program that prints the repaired log, one mark to a line: document 02, request (iv).
 #![tactic(auto)]
 
-fn main() {
-    printing::run_marks();
+fn main(rt: HostRuntime) {
+    printing::run_marks(&mut rt.stdin());
 }

@@ -6,8 +6,8 @@
 --     beyond_of                                  what is in a and not in b, by the complement of b
 --     below_of                                   the numbers below n
 --     least_one, greatest_one, beyond_one, below_one   each is one
-use Rattle.std.specs.Prelude.{ℕ, zero, suc, ◌+◌, ◌-◌, ◌*◌, ◌/◌, ◌%◌, ◌^◌, ◌≤◌, ◌<◌, true, ◌≡◌, refl, ◌⊎◌}
-use Rattle.std.proofs.Common.{sym, ap, ◌∙◌, subst, inl, inr, ⊎_elim, arith, pow-suc, one-mul, mod-eq_of_lt, pow-add, pow_pos, pow_mono}
+use Rattle.std.specs.Prelude.{ℕ, zero, suc, ◌+◌, ◌-◌, ◌*◌, ◌/◌, ◌%◌, ◌^◌, ◌≤◌, ◌<◌, true, ◌≡◌, refl}
+use Rattle.std.proofs.Common.{sym, ap, ◌∙◌, subst, ⊎_elim, arith, pow-suc, one-mul, mod-eq_of_lt, pow-add, pow_pos, pow_mono}
 use Rattle.std.proofs.Math.Nat.{div-div-eq-div-mul}
 use Rattle.std.specs.Int.Bits.{bit_and}
 use Rattle.std.specs.Int.Count.{count_leading_zeros, count_trailing_zeros, under}

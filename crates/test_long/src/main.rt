@@ -1,6 +1,6 @@
 // The printing program, on an input longer than its room.
 #![tactic(auto)]
 
-fn main() {
-    printing::run();
+fn main(rt: HostRuntime) {
+    printing::run(&mut rt.stdin());
 }

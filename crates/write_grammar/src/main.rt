@@ -1,6 +1,6 @@
 // The program that writes grammar files: document 02, request (i).
 #![tactic(auto)]
 
-fn main() {
-    making::run();
+fn main(rt: HostRuntime) {
+    making::run(&mut rt.stdin());
 }

@@ -1,6 +1,6 @@
 -- `block::weighted_sum` meets its contract: the sum over the first i bytes, at most 510 * 255 for each of them. The measure is
 -- what is left.
-use Prim.Native.Nat.{◌+◌, ◌*◌, ◌-◌, ◌≤◌}
+use Prim.Native.Nat.{◌+◌}
 use native.Mathlib.Omega.{arith}
 use mathlib.Core.Path.{◌≡◌, sym, ap, ap₂, ◌∙◌}
 use Rattle.grammar.specs.File.{weighted_sum}

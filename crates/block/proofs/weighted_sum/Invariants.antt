@@ -1,8 +1,6 @@
-use Prim.Native.Nat.{◌+◌, ◌*◌, ◌-◌, ◌≤◌}
-use native.Mathlib.Omega.{arith}
-use mathlib.Core.Path.{◌≡◌, sym, ap, ap₂, ◌∙◌}
+use Prim.Native.Nat.{◌*◌, ◌-◌, ◌≤◌}
+use mathlib.Core.Path.{◌≡◌}
 use Rattle.grammar.specs.File.{weighted_sum}
-use Rattle.grammar.specs.Theory.Files.{sum_none, sum_more}
 use Rattle.block.proofs.weighted_sum.Given as goal
 
 abbrev pub invariant-loop-i : goal.invariant-loop-i

@@ -1,9 +1,7 @@
 -- `costs::begin_nonterminals` meets its contract: the nonterminals in front of k have a cost over 60,000. The measure is what is left of
 -- them.
 use native.Mathlib.Omega.{arith}
-use Prim.Native.Nat.{◌-◌, ◌≤◌}
 use mathlib.Core.Path.{sym, ◌∙◌}
-use Rattle.costs.specs.Held.{Begun}
 use Rattle.costs.proofs.Beginning.{nonterminals_go, nonterminals_end}
 use Rattle.costs.proofs.begin_nonterminals.Goals as goal
 

@@ -1,8 +1,5 @@
-use native.Mathlib.Omega.{arith}
 use Prim.Native.Nat.{◌-◌, ◌≤◌}
-use mathlib.Core.Path.{sym, ◌∙◌}
 use Rattle.costs.specs.Held.{Begun}
-use Rattle.costs.proofs.Beginning.{nonterminals_go, nonterminals_end}
 use Rattle.costs.proofs.begin_nonterminals.Given as goal
 
 abbrev pub invariant-loop-k : goal.invariant-loop-k

@@ -1,8 +1,7 @@
 -- `costs::begin_terminals` meets its contract: the terminals in front of t have their costs. The measure is what is left of them.
 use native.Mathlib.Omega.{arith}
-use Prim.Native.Nat.{◌-◌, ◌≤◌}
 use mathlib.Core.Path.{sym, ◌∙◌}
-use Rattle.costs.proofs.Beginning.{Filled, terminals_begin, terminals_go, terminals_end}
+use Rattle.costs.proofs.Beginning.{terminals_begin, terminals_go, terminals_end}
 use Rattle.costs.proofs.begin_terminals.Goals as goal
 
 pub terminal_count-count-requires : goal.terminal_count-count-requires

@@ -1,7 +1,5 @@
-use native.Mathlib.Omega.{arith}
 use Prim.Native.Nat.{◌-◌, ◌≤◌}
-use mathlib.Core.Path.{sym, ◌∙◌}
-use Rattle.costs.proofs.Beginning.{Filled, terminals_begin, terminals_go, terminals_end}
+use Rattle.costs.proofs.Beginning.{Filled}
 use Rattle.costs.proofs.begin_terminals.Given as goal
 
 abbrev pub invariant-loop-t : goal.invariant-loop-t

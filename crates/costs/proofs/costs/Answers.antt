@@ -1,10 +1,10 @@
 -- `costs::costs` meets its contract: a rule that mentions nothing on the list is settled, and behind the list all are.
 use native.Mathlib.Omega.{arith}
 use Prim.Native.Nat.{◌<◌, ◌^◌}
-use mathlib.Core.Path.{◌≡◌, refl, sym, ap, ◌∙◌, subst}
+use mathlib.Core.Path.{sym, ap, ◌∙◌, subst}
 use Rattle.sets.specs.Operations.{union}
 use Rattle.costs.specs.Settled.{stands_costed}
-use Rattle.costs.proofs.Listing.{Listing, left, spans, list_begins, list_goes, list_ends, list_less}
+use Rattle.costs.proofs.Listing.{left, spans, list_begins, list_goes, list_ends, list_less}
 use Rattle.std.proofs.Common.{rules}
 use Rattle.costs.proofs.costs.Goals as goal
 

@@ -1,8 +1,6 @@
 -- `costs::empties` meets its contract: the mask has what can be empty of the nonterminals in front of k.
 use native.Mathlib.Omega.{arith}
-use Prim.Native.Nat.{◌-◌, ◌≤◌, ◌<◌}
-use mathlib.Core.Path.{◌≡◌, sym, subst}
-use Rattle.costs.specs.Empty.{Emptied, mask_begins, mask_goes, mask_ends}
+use Rattle.costs.specs.Empty.{mask_begins, mask_goes, mask_ends}
 use Rattle.costs.proofs.empties.Goals as goal
 
 pub nonterminal_count-count-requires : goal.nonterminal_count-count-requires

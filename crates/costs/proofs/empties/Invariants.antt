@@ -1,7 +1,5 @@
-use native.Mathlib.Omega.{arith}
-use Prim.Native.Nat.{◌-◌, ◌≤◌, ◌<◌}
-use mathlib.Core.Path.{◌≡◌, sym, subst}
-use Rattle.costs.specs.Empty.{Emptied, mask_begins, mask_goes, mask_ends}
+use Prim.Native.Nat.{◌-◌, ◌≤◌}
+use Rattle.costs.specs.Empty.{Emptied}
 use Rattle.costs.proofs.empties.Given as goal
 
 abbrev pub invariant-loop-k : goal.invariant-loop-k

@@ -1,7 +1,6 @@
 -- `costs::rule_cost` meets its contract: the sum is that of the symbols from i on. The measure is i.
 use native.Mathlib.Omega.{arith}
-use Rattle.costs.specs.Held.{entry}
-use Rattle.costs.proofs.Summing.{Summed, sum_none, sum_more, sum_all}
+use Rattle.costs.proofs.Summing.{sum_none, sum_more, sum_all}
 use Rattle.costs.proofs.rule_cost.Goals as goal
 
 pub size_of-i-requires : goal.size_of-i-requires

@@ -1,6 +1,5 @@
-use native.Mathlib.Omega.{arith}
 use Rattle.costs.specs.Held.{entry}
-use Rattle.costs.proofs.Summing.{Summed, sum_none, sum_more, sum_all}
+use Rattle.costs.proofs.Summing.{Summed}
 use Rattle.costs.proofs.rule_cost.Given as goal
 
 abbrev pub invariant-loop-i : goal.invariant-loop-i

@@ -1,6 +1,5 @@
 -- `costs::stays` meets its contract, case by case.
 use native.Mathlib.Omega.{arith}
-use mathlib.Core.Path.{◌≡◌, sym, ◌∙◌}
 use mathlib.Core.Bool.{true≢false, false≢true}
 use borrow.Author.Tests.{leb-true, leb-false}
 use Rattle.costs.proofs.stays.Goals as goal

@@ -2,7 +2,7 @@
 -- rule.
 use native.Mathlib.Omega.{arith}
 use Prim.Native.Nat.{◌+◌}
-use mathlib.Core.Path.{◌≡◌, sym, ◌∙◌, subst}
+use mathlib.Core.Path.{subst}
 use lib.ListN.{length-set}
 use Rattle.costs.specs.Held.{held_limited}
 use Rattle.costs.specs.Visiting.{Capped}

@@ -1,8 +1,7 @@
 -- `costs::visit_row` meets its contract: the rules of the first w words are visited.
 use native.Mathlib.Omega.{arith}
-use Prim.Native.Nat.{◌+◌, ◌*◌, ◌-◌, ◌≤◌}
-use mathlib.Core.Path.{◌≡◌, refl, sym, ◌∙◌, subst}
-use Rattle.costs.specs.Visiting.{Rowing, row_begins, row_goes, row_ends, row_rules}
+use mathlib.Core.Path.{refl, sym, ◌∙◌}
+use Rattle.costs.specs.Visiting.{row_begins, row_goes, row_ends, row_rules}
 use Rattle.costs.proofs.visit_row.Goals as goal
 
 pub loop-w-init : goal.loop-w-init

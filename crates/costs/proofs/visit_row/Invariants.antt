@@ -1,7 +1,5 @@
-use native.Mathlib.Omega.{arith}
-use Prim.Native.Nat.{◌+◌, ◌*◌, ◌-◌, ◌≤◌}
-use mathlib.Core.Path.{◌≡◌, refl, sym, ◌∙◌, subst}
-use Rattle.costs.specs.Visiting.{Rowing, row_begins, row_goes, row_ends, row_rules}
+use Prim.Native.Nat.{◌-◌, ◌≤◌}
+use Rattle.costs.specs.Visiting.{Rowing}
 use Rattle.costs.proofs.visit_row.Given as goal
 
 abbrev pub invariant-loop-w : goal.invariant-loop-w

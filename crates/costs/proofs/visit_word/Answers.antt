@@ -1,9 +1,8 @@
 -- `costs::visit_word` meets its contract: the rules of the word but the rest are visited. The measure is the rest.
 use native.Mathlib.Omega.{arith}
-use Prim.Native.Nat.{◌+◌, ◌*◌}
-use mathlib.Core.Path.{◌≡◌, sym, ◌∙◌, subst}
+use mathlib.Core.Path.{sym, ◌∙◌}
 use Rattle.sets.specs.Taking.{without_less}
-use Rattle.costs.specs.Visiting.{Wording, word_begins, word_goes, word_ends}
+use Rattle.costs.specs.Visiting.{word_begins, word_goes, word_ends}
 use Rattle.costs.proofs.visit_word.Goals as goal
 
 pub loop-rest-init : goal.loop-rest-init

@@ -1,8 +1,4 @@
-use native.Mathlib.Omega.{arith}
-use Prim.Native.Nat.{◌+◌, ◌*◌}
-use mathlib.Core.Path.{◌≡◌, sym, ◌∙◌, subst}
-use Rattle.sets.specs.Taking.{without_less}
-use Rattle.costs.specs.Visiting.{Wording, word_begins, word_goes, word_ends}
+use Rattle.costs.specs.Visiting.{Wording}
 use Rattle.costs.proofs.visit_word.Given as goal
 
 abbrev pub invariant-loop-rest : goal.invariant-loop-rest

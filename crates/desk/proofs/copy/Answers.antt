@@ -1,8 +1,8 @@
 -- `desk::copy` meets its contract: i entries are copied. The measure is what is left.
 use native.Mathlib.Omega.{arith}
-use Prim.Native.Nat.{◌+◌, ◌-◌, ◌≤◌}
+use Prim.Native.Nat.{◌+◌}
 use mathlib.Core.Path.{refl}
-use Rattle.desk.proofs.Listing.{Copied, copy_begins, copy_goes, copy_ends}
+use Rattle.desk.proofs.Listing.{copy_begins, copy_goes, copy_ends}
 use Rattle.desk.proofs.copy.Goals as goal
 
 pub loop-i-init : goal.loop-i-init

@@ -1,7 +1,5 @@
-use native.Mathlib.Omega.{arith}
-use Prim.Native.Nat.{◌+◌, ◌-◌, ◌≤◌}
-use mathlib.Core.Path.{refl}
-use Rattle.desk.proofs.Listing.{Copied, copy_begins, copy_goes, copy_ends}
+use Prim.Native.Nat.{◌-◌, ◌≤◌}
+use Rattle.desk.proofs.Listing.{Copied}
 use Rattle.desk.proofs.copy.Given as goal
 
 abbrev pub invariant-loop-i : goal.invariant-loop-i

@@ -1,7 +1,6 @@
 -- `desk::list` meets its contract: either buffer is too short, or costs and rules are copied in front of zeros.
 use native.Mathlib.Omega.{arith}
 use Rattle.desk.proofs.Listing.{short, lists, table_words}
-use Rattle.std.proofs.Common.{rules}
 use Rattle.desk.proofs.list.Goals as goal
 
 pub nonterminal_count-count-requires : goal.nonterminal_count-count-requires

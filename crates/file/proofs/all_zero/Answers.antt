@@ -1,8 +1,6 @@
 -- `file::all_zero` meets its contract: the bytes in front of i are joined (`Joined`). The measure is what is left.
-use Prim.Native.Nat.{◌-◌, ◌≤◌}
 use native.Mathlib.Omega.{arith}
-use lib.ListN.{length}
-use Rattle.file.proofs.Zeros.{Joined, joined_begins, joined_goes, joined_tells}
+use Rattle.file.proofs.Zeros.{joined_begins, joined_goes, joined_tells}
 use Rattle.file.proofs.all_zero.Goals as goal
 
 pub loop-i-init : goal.loop-i-init

@@ -1,7 +1,6 @@
 use Prim.Native.Nat.{◌-◌, ◌≤◌}
-use native.Mathlib.Omega.{arith}
 use lib.ListN.{length}
-use Rattle.file.proofs.Zeros.{Joined, joined_begins, joined_goes, joined_tells}
+use Rattle.file.proofs.Zeros.{Joined}
 use Rattle.file.proofs.all_zero.Given as goal
 
 abbrev pub invariant-loop-i : goal.invariant-loop-i

@@ -1,8 +1,6 @@
 -- `file::blocks_right` meets its contract: the blocks in front of k are right. The measure is what is left.
-use Prim.Native.Nat.{ℕ, ◌-◌, ◌≤◌, ◌<◌}
 use native.Mathlib.Omega.{arith}
 use borrow.Author.Count.{below_more}
-use Rattle.grammar.specs.File.{BlockFields}
 use Rattle.base.specs.Telling.{told, denied}
 use Rattle.file.proofs.blocks_right.Goals as goal
 

@@ -1,8 +1,5 @@
 use Prim.Native.Nat.{ℕ, ◌-◌, ◌≤◌, ◌<◌}
-use native.Mathlib.Omega.{arith}
-use borrow.Author.Count.{below_more}
 use Rattle.grammar.specs.File.{BlockFields}
-use Rattle.base.specs.Telling.{told, denied}
 use Rattle.file.proofs.blocks_right.Given as goal
 
 abbrev pub invariant-loop-k : goal.invariant-loop-k

@@ -1,8 +1,6 @@
 -- `file::checks_right` meets its contract: the checks of the blocks in front of k are right. The measure is what is left.
-use Prim.Native.Nat.{ℕ, ◌-◌, ◌≤◌, ◌<◌}
 use native.Mathlib.Omega.{arith}
 use borrow.Author.Count.{below_more}
-use Rattle.grammar.specs.Theory.Files.{CheckRight}
 use Rattle.base.specs.Telling.{told, denied}
 use Rattle.file.proofs.checks_right.Goals as goal
 

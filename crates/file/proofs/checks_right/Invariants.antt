@@ -1,8 +1,5 @@
 use Prim.Native.Nat.{ℕ, ◌-◌, ◌≤◌, ◌<◌}
-use native.Mathlib.Omega.{arith}
-use borrow.Author.Count.{below_more}
 use Rattle.grammar.specs.Theory.Files.{CheckRight}
-use Rattle.base.specs.Telling.{told, denied}
 use Rattle.file.proofs.checks_right.Given as goal
 
 abbrev pub invariant-loop-k : goal.invariant-loop-k

@@ -1,7 +1,6 @@
 -- `file::copy_block` meets its contract: the first i words are copied (`BlockCopied`). The measure is what is left.
-use Prim.Native.Nat.{◌-◌, ◌≤◌}
 use native.Mathlib.Omega.{arith}
-use Rattle.file.proofs.Copying.{block_ends, BlockCopied, block_begins, block_goes}
+use Rattle.file.proofs.Copying.{block_ends, block_begins, block_goes}
 use Rattle.file.proofs.copy_block.Goals as goal
 
 pub loop-i-init : goal.loop-i-init

@@ -1,6 +1,5 @@
 use Prim.Native.Nat.{◌-◌, ◌≤◌}
-use native.Mathlib.Omega.{arith}
-use Rattle.file.proofs.Copying.{block_ends, BlockCopied, block_begins, block_goes}
+use Rattle.file.proofs.Copying.{BlockCopied}
 use Rattle.file.proofs.copy_block.Given as goal
 
 abbrev pub invariant-loop-i : goal.invariant-loop-i

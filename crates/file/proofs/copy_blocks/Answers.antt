@@ -1,9 +1,8 @@
 -- `file::copy_blocks` meets its contract: the words of the blocks in front of k are copied (`BlocksCopied`). The measure is
 -- what is left.
-use Prim.Native.Nat.{◌-◌, ◌≤◌}
 use native.Mathlib.Omega.{arith}
 use Rattle.grammar.specs.Theory.Files.{use_most, block_fits}
-use Rattle.file.proofs.Copying.{blocks_end_lem, BlocksCopied, blocks_begin, blocks_go}
+use Rattle.file.proofs.Copying.{blocks_end_lem, blocks_begin, blocks_go}
 use Rattle.file.proofs.copy_blocks.Goals as goal
 
 pub loop-k-init : goal.loop-k-init

@@ -1,7 +1,5 @@
 use Prim.Native.Nat.{◌-◌, ◌≤◌}
-use native.Mathlib.Omega.{arith}
-use Rattle.grammar.specs.Theory.Files.{use_most, block_fits}
-use Rattle.file.proofs.Copying.{blocks_end_lem, BlocksCopied, blocks_begin, blocks_go}
+use Rattle.file.proofs.Copying.{BlocksCopied}
 use Rattle.file.proofs.copy_blocks.Given as goal
 
 abbrev pub invariant-loop-k : goal.invariant-loop-k

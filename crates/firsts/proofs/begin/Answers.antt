@@ -1,8 +1,7 @@
 -- `firsts::begin` meets its contract: the rules in front of p have given what can stand first in them (`RulesLed`).
 use native.Mathlib.Omega.{arith}
-use Prim.Native.Nat.{◌-◌}
 use mathlib.Core.Path.{sym, ◌∙◌}
-use Rattle.firsts.specs.Begun.{RulesLed, begin_none, begin_goes, begin_ends}
+use Rattle.firsts.specs.Begun.{begin_none, begin_goes, begin_ends}
 use Rattle.firsts.proofs.begin.Goals as goal
 
 pub rule_count-count-requires : goal.rule_count-count-requires

@@ -1,7 +1,5 @@
-use native.Mathlib.Omega.{arith}
 use Prim.Native.Nat.{◌-◌}
-use mathlib.Core.Path.{sym, ◌∙◌}
-use Rattle.firsts.specs.Begun.{RulesLed, begin_none, begin_goes, begin_ends}
+use Rattle.firsts.specs.Begun.{RulesLed}
 use Rattle.firsts.proofs.begin.Given as goal
 
 abbrev pub invariant-loop-p : goal.invariant-loop-p

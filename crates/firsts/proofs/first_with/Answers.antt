@@ -1,10 +1,7 @@
 -- `firsts::first_with` meets its contract: the walk goes on behind a nonterminal that can be empty, and ends at any other symbol (`Fronted`).
 use native.Mathlib.Omega.{arith}
-use Prim.Native.Nat.{◌-◌}
 use mathlib.Core.Path.{sym, ◌∙◌}
-use lib.ListN.{drop}
-use Rattle.grammar.specs.Words.{right_side}
-use Rattle.firsts.specs.Fronts.{Fronted, front_begins, front_at, front_token, front_past, front_stop, front_ends}
+use Rattle.firsts.specs.Fronts.{front_begins, front_at, front_token, front_past, front_stop, front_ends}
 use Rattle.firsts.proofs.first_with.Goals as goal
 
 pub size_of-size-requires : goal.size_of-size-requires

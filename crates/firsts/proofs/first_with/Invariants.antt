@@ -1,9 +1,7 @@
-use native.Mathlib.Omega.{arith}
 use Prim.Native.Nat.{◌-◌}
-use mathlib.Core.Path.{sym, ◌∙◌}
 use lib.ListN.{drop}
 use Rattle.grammar.specs.Words.{right_side}
-use Rattle.firsts.specs.Fronts.{Fronted, front_begins, front_at, front_token, front_past, front_stop, front_ends}
+use Rattle.firsts.specs.Fronts.{Fronted}
 use Rattle.firsts.proofs.first_with.Given as goal
 
 abbrev pub invariant-loop-i : goal.invariant-loop-i

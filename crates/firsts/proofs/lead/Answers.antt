@@ -1,10 +1,7 @@
 -- `firsts::lead` meets its contract: the walk goes on behind a nonterminal that can be empty, and ends at any other symbol (`Leading`).
 use native.Mathlib.Omega.{arith}
-use Prim.Native.Nat.{◌-◌}
 use mathlib.Core.Path.{sym, ◌∙◌}
-use lib.ListN.{drop}
-use Rattle.grammar.specs.Words.{right_side}
-use Rattle.firsts.specs.Leading.{Leading, lead_begins, lead_at, lead_none, lead_token, lead_past, lead_stop, lead_ends}
+use Rattle.firsts.specs.Leading.{lead_begins, lead_at, lead_none, lead_token, lead_past, lead_stop, lead_ends}
 use Rattle.firsts.proofs.lead.Goals as goal
 
 pub left_of-k-requires : goal.left_of-k-requires

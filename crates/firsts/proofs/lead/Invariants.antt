@@ -1,9 +1,7 @@
-use native.Mathlib.Omega.{arith}
 use Prim.Native.Nat.{◌-◌}
-use mathlib.Core.Path.{sym, ◌∙◌}
 use lib.ListN.{drop}
 use Rattle.grammar.specs.Words.{right_side}
-use Rattle.firsts.specs.Leading.{Leading, lead_begins, lead_at, lead_none, lead_token, lead_past, lead_stop, lead_ends}
+use Rattle.firsts.specs.Leading.{Leading}
 use Rattle.firsts.proofs.lead.Given as goal
 
 abbrev pub invariant-loop-i : goal.invariant-loop-i

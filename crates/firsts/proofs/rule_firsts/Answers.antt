@@ -1,9 +1,8 @@
 -- `firsts::rule_firsts` meets its contract: the sets in front of p are exact.
 use Rattle.grammar.specs.Grammar.{RuleOf}
 use native.Mathlib.Omega.{arith}
-use Prim.Native.Nat.{ℕ, ◌<◌, ◌-◌}
-use mathlib.Core.Path.{◌≡◌, refl}
-use lib.ListN.{length, get_or, length-set}
+use mathlib.Core.Path.{refl}
+use lib.ListN.{length-set}
 use Rattle.grammar.specs.Theory.Masks.{FirstMask}
 use Rattle.grammar.specs.Words.{right_side}
 use Rattle.growth.specs.Sums.{filled_more}

@@ -1,12 +1,9 @@
 use Rattle.grammar.specs.Grammar.{RuleOf}
-use native.Mathlib.Omega.{arith}
 use Prim.Native.Nat.{ℕ, ◌<◌, ◌-◌}
-use mathlib.Core.Path.{◌≡◌, refl}
-use lib.ListN.{length, get_or, length-set}
+use mathlib.Core.Path.{◌≡◌}
+use lib.ListN.{length, get_or}
 use Rattle.grammar.specs.Theory.Masks.{FirstMask}
 use Rattle.grammar.specs.Words.{right_side}
-use Rattle.growth.specs.Sums.{filled_more}
-use Rattle.firsts.specs.Firsts.{right_first}
 use Rattle.firsts.proofs.rule_firsts.Given as goal
 
 abbrev pub invariant-loop-p : goal.invariant-loop-p

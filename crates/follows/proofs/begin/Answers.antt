@@ -1,8 +1,7 @@
 -- `follows::begin` meets its contract: the rules in front of p have fed what they feed (`RulesFed`).
 use native.Mathlib.Omega.{arith}
-use Prim.Native.Nat.{◌-◌}
 use mathlib.Core.Path.{sym, ◌∙◌}
-use Rattle.follows.specs.Begun.{RulesFed, begin_none, begin_goes, begin_ends}
+use Rattle.follows.specs.Begun.{begin_none, begin_goes, begin_ends}
 use Rattle.follows.proofs.begin.Goals as goal
 
 pub rule_count-count-requires : goal.rule_count-count-requires

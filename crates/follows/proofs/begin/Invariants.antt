@@ -1,7 +1,5 @@
-use native.Mathlib.Omega.{arith}
 use Prim.Native.Nat.{◌-◌}
-use mathlib.Core.Path.{sym, ◌∙◌}
-use Rattle.follows.specs.Begun.{RulesFed, begin_none, begin_goes, begin_ends}
+use Rattle.follows.specs.Begun.{RulesFed}
 use Rattle.follows.proofs.begin.Given as goal
 
 abbrev pub invariant-loop-p : goal.invariant-loop-p

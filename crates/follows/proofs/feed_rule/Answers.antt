@@ -2,10 +2,8 @@
 -- (`Lasting`).
 use native.Mathlib.Omega.{arith}
 use mathlib.Core.Path.{◌≡◌, sym, ◌∙◌}
-use lib.ListN.{drop}
-use Rattle.grammar.specs.Words.{right_side}
-use Rattle.follows.specs.Feeding.{Feeding, feeding_begins, feeding_goes, feeding_ends}
-use Rattle.follows.specs.Lasts.{Lasting, lasting_begins, lasting_goes, lasting_ends}
+use Rattle.follows.specs.Feeding.{feeding_begins, feeding_goes, feeding_ends}
+use Rattle.follows.specs.Lasts.{lasting_begins, lasting_goes, lasting_ends}
 use Rattle.follows.proofs.feed_rule.Goals as goal
 
 pub size_of-i-requires : goal.size_of-i-requires

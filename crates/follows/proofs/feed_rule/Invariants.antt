@@ -1,9 +1,7 @@
-use native.Mathlib.Omega.{arith}
-use mathlib.Core.Path.{◌≡◌, sym, ◌∙◌}
 use lib.ListN.{drop}
 use Rattle.grammar.specs.Words.{right_side}
-use Rattle.follows.specs.Feeding.{Feeding, feeding_begins, feeding_goes, feeding_ends}
-use Rattle.follows.specs.Lasts.{Lasting, lasting_begins, lasting_goes, lasting_ends}
+use Rattle.follows.specs.Feeding.{Feeding}
+use Rattle.follows.specs.Lasts.{Lasting}
 use Rattle.follows.proofs.feed_rule.Given as goal
 
 abbrev pub invariant-loop-i : goal.invariant-loop-i

@@ -15,23 +15,10 @@ use Rattle.grammar.specs.Words.{is_long, header_size, terminal_count, nontermina
 use Rattle.grammar.specs.Words.{insert_cost, reliability, rule_place, left_side, right_size, right_side}
 use Rattle.grammar.specs.Grammar.{RuleOf, Reliable, grammar_of, conditions_of, meaning_of}
 use Rattle.grammar.proofs.Theory.Headers.{long_terminals, long_size, long_restart, short_terminals, short_size, short_restart}
-use Rattle.grammar.proofs.Theory.Meanings.{SameConditions, Alike, same_conditions}
+use Rattle.grammar.proofs.Theory.Meanings.{SameConditions, Alike}
+use Rattle.grammar.proofs.Theory.Meanings.{same_conditions}
 use Rattle.grammar.proofs.Theory.SameGrammars.{SameGrammar, other_way}
-
--- The words behind the header.
-abbrev behind : List ℕ → List ℕ
-behind ws = drop (header_size ws) ws
-
--- The headers say the same, in front of the same words; and the unit of both is 0 or 1, or of neither.
-pub record SameHeader (ws vs : List ℕ) : Type 0 where
-  pub terminals : terminal_count ws ≡ terminal_count vs
-  pub nonterminals : nonterminal_count ws ≡ nonterminal_count vs
-  pub rules : rule_count ws ≡ rule_count vs
-  pub opening : opening ws ≡ opening vs
-  pub closing : closing ws ≡ closing vs
-  pub unit : (tick_unit ws ≤ 1) ↔ (tick_unit vs ≤ 1)
-  pub restart : restart_mark ws ≡ restart_mark vs
-  pub rest : behind ws ≡ behind vs
+use Rattle.grammar.specs.Theory.Behind.{behind, SameHeader, place_in, seven_words, six_form}
 
 same_header_sym : {ws vs : List ℕ} → SameHeader ws vs → SameHeader vs ws
 same_header_sym s =
@@ -54,11 +41,6 @@ drop_more (suc h) k [] = drop_of_length-le [] {i = suc h + k} (omega arith) ∙ 
 drop_more (suc h) k (x ∷ l) =
     let e : suc h + k ≡ suc (h + k) = omega arith in
     ap (λ n. drop n (x ∷ l)) e ∙ drop_more h k l
-
--- Where rule p stands among them.
-unfoldable place_in : ℕ → List ℕ → ℕ → ℕ
-place_in T rest zero = 2 * T
-place_in T rest (suc p) = place_in T rest p + 2 + word rest (place_in T rest p + 1)
 
 module _ (ws : List ℕ) where
   word_behind : (k : ℕ) → word ws (header_size ws + k) ≡ word (behind ws) k
@@ -224,12 +206,6 @@ module _ (ws vs : List ℕ) (same : SameHeader ws vs) where
       }
 
 -- ---- A seven-word grammar with restart mark 0, and its six-word form
-
-abbrev pub seven_words : (T N P o c u : ℕ) → List ℕ → List ℕ
-seven_words T N P o c u rest = (T + 256) ∷ N ∷ P ∷ o ∷ c ∷ u ∷ 0 ∷ rest
-
-abbrev pub six_form : (T N P o c u : ℕ) → List ℕ → List ℕ
-six_form T N P o c u rest = T ∷ N ∷ P ∷ o ∷ c ∷ u ∷ rest
 
 pub form_alike : (T N P o c u : ℕ) (rest : List ℕ) → 1 ≤ T → T ≤ 64
     → Alike (meaning_of (seven_words T N P o c u rest)) (meaning_of (six_form T N P o c u rest))

@@ -10,7 +10,8 @@ use Rattle.grammar.specs.Grammar.{RuleOf, grammar_of}
 use Rattle.grammar.specs.Theory.Closed.{total, ClosedCost}
 use Rattle.grammar.specs.Theory.Costing.{list_cost_unique, list_cost_sum, reached}
 use Rattle.grammar.specs.Theory.Ending as Ending
-use Rattle.grammar.proofs.Theory.Exists.{Least, least_of}
+use Rattle.grammar.specs.Theory.Exists.{Least}
+use Rattle.grammar.proofs.Theory.Exists.{least_of}
 use Rattle.grammar.specs.Theory.Good.{Accepted, Good, good_words}
 use Rattle.grammar.specs.Theory.Members.{all_map}
 use Rattle.grammar.specs.Theory.Rewriting.{Affords, affords_nothing, affords_terminal, affords_append, affords_rule}

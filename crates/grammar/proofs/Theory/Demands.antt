@@ -14,10 +14,10 @@ use Rattle.grammar.specs.Derivation.{Derives, All, Yields}
 use Rattle.grammar.specs.Derivation.{Reachable, Productive, NoneShared}
 use Rattle.grammar.specs.Grammar.{RuleOf, Affordable, EachNonterminal, Verdict, grammar_of, start_over_end, grammar_conditions}
 use Rattle.grammar.specs.Buffers.{filled, cleared}
-use Rattle.grammar.specs.Moves.{Move, Edit, edits, edit_words, rule_numbers, repaired, passed, placed}
+use Rattle.grammar.specs.Moves.{Move, edits, repaired, passed, placed}
 use Rattle.grammar.specs.Run.{Plausible, Hit, Pop, Choice, correcting}
 use Rattle.grammar.specs.Run.{LogFits, Asks, only10, no_more, run_conditions, RunOf, counts_of, Parses, Parsed}
-use Rattle.grammar.specs.Refusals.{Condition, Outcome, given, refused}
+use Rattle.grammar.specs.Refusals.{Condition, Outcome, given}
 use Rattle.grammar.specs.File.{file_conditions, file_words, FileRead}
 use Rattle.grammar.specs.Pace.{Span, Clean, timed, Reported}
 use Rattle.grammar.specs.declared.Refusal.{Refusal}
@@ -33,18 +33,19 @@ use Rattle.grammar.specs.Theory.Due as Due
 use Rattle.grammar.specs.Theory.Due.{Due, InOrder, LowestNumber, lowest_held}
 use Rattle.grammar.specs.Theory.Fills.{fills_exactly, fills_zeros, fills_content}
 use Rattle.grammar.proofs.Theory.Refused as Refused
-use Rattle.grammar.proofs.Theory.Refused.{Given}
+use Rattle.grammar.specs.Theory.Refused.{Given}
 use Rattle.grammar.proofs.Theory.Told.{told, idle_no_cycle, no_cycle_idle, idle_no_time}
 use Rattle.grammar.proofs.Theory.Repaired as Repaired
 use Rattle.grammar.proofs.Theory.Filled as Filling
-use Rattle.grammar.proofs.Theory.Filled.{Filled}
+use Rattle.grammar.specs.Theory.Filled.{Filled}
 use Rattle.grammar.proofs.Theory.Correct as Correct
 use Rattle.grammar.proofs.Theory.Bounded as Bounded
-use Rattle.grammar.proofs.Theory.Rebuilt.{rebuilt, rebuilt_repaired}
+use Rattle.grammar.proofs.Theory.Rebuilt.{rebuilt_repaired}
 use Rattle.grammar.proofs.Theory.Kept.{parsed_made}
 use Rattle.grammar.specs.Cases.Case.{edit_room, rule_room}
 use Rattle.grammar.specs.Cases.Cases.{case12}
 use Rattle.grammar.proofs.Cases.Bound as Bound
+use Rattle.grammar.specs.Theory.Demands.{Answered, Blank, Lists, Kept}
 
 -- ======== Demand 1: every input gets its answer, each refusal exactly when the table says
 
@@ -66,12 +67,6 @@ in_order bytes ws log ticks room P = (
 pub lowest_number : {cs : List Condition} → InOrder cs → (r : Refusal) → Due cs r ↔ LowestNumber cs r
 lowest_number order r = Due.lowest_number order r
 
--- What an answer keeps: each refusal is given exactly where `Refuses` says, and leaves `Zeros`; values come with what `Holds` says.
-pub record Answered {A : Type 0} (answer : Outcome A) (Refuses : Refusal → Type 0) (Zeros : Type 0) (Holds : A → Type 0) : Type 0 where
-  pub exactly : (r : Refusal) → (answer ≡ refused r) ↔ Refuses r
-  pub zeros : (r : Refusal) → answer ≡ refused r → Zeros
-  pub holds : (a : A) → answer ≡ given a → Holds a
-
 -- The reader: the file's words, zeros behind them, or a refusal that is due, and zeros.
 pub reader_answers : {bytes : List ℕ} {room : ℕ} {a : Outcome ℕ} {x : List ℕ} → FileRead bytes room a x
     → Answered a (Due (file_conditions bytes room)) (x ≡ cleared room)
@@ -86,16 +81,6 @@ reader_answers p =
 -- The check: a refusal that is due. It has no buffer.
 pub check_answers : {ws : List ℕ} {o : Option Refusal} → Verdict ws o → (r : Refusal) → (o ≡ some r) ↔ Due (grammar_conditions ws) r
 check_answers v = Refused.lowest_exactly v
-
--- The buffers of a parse: zeros; or the words of the moves, zeros behind them.
-abbrev pub Blank : ℕ → ℕ → List ℕ → List ℕ → Type 0
-Blank edit_room rule_room x y = (x ≡ cleared edit_room) × (y ≡ cleared rule_room)
-
-pub record Lists (edit_room rule_room : ℕ) (x y : List ℕ) (counts : Counts) : Type 0 where
-  pub moves : List Move
-  pub counted : counts ≡ counts_of moves
-  pub edit_words_lem : x ≡ filled edit_room (edit_words (edits moves))
-  pub rule_words : y ≡ filled rule_room (rule_numbers moves)
 
 lists : {Asked : Asks} {ws log : List ℕ} {edit_room rule_room : ℕ} {o : Outcome (List Move)} {x y : List ℕ} {counts : Counts}
     → Parses Asked ws log edit_room rule_room o x y → ((ms : List Move) × (o ≡ given ms) × (counts ≡ counts_of ms))
@@ -222,19 +207,6 @@ pub bound_itself : ((p : ℕ) → p < rule_count case12.words → right_size cas
 bound_itself = (Bound.case12_right_sides, λ ms run. Bound.case12_moves run)
 
 -- ======== Demands 2 and 3 of the parser's own answer: what stands in the edit buffer when it answers with counts
-
-pub record Kept (ws log : List ℕ) (edit_room : ℕ) (counts : Counts) (edit_buffer : List ℕ) : Type 0 where
-  -- the records in the buffer, as many as the answer says, and zeros behind them
-  pub records : List Edit
-  pub buffer : edit_buffer ≡ filled edit_room (edit_words records)
-  pub count : counts.records ≡ length records
-  -- "The log without deleted tokens and with inserted symbols put before place r" follows from START.
-  pub derivable : Derives (RuleOf ws) (START ∷ []) (rebuilt log records)
-  -- There are no records exactly when the log was correct.
-  pub none_when_correct : (records ≡ []) ↔ Derives (RuleOf ws) (START ∷ []) log
-  -- The moves are bounded.
-  pub bounded : (R : ℕ) → ((p : ℕ) → p < rule_count ws → right_size ws p ≤ R)
-      → counts.moves ≤ 2 + length log + R * nonterminal_count ws * length log
 
 pub parse_keeps : {ws log : List ℕ} {edit_room rule_room : ℕ} {counts : Counts} {x y : List ℕ}
     → Parsed ws log edit_room rule_room (given counts) x y → Kept ws log edit_room counts x

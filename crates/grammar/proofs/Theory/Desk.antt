@@ -1,17 +1,16 @@
 -- What the setup desk answers (`DeskAnswer` of Desk.antt) is one, and demand 1 of it. `Requests` states it first.
 use Rattle.std.specs.Prelude.{ℕ, ◌<◌, ◌≡◌, refl, List, ◌↔◌, get_or}
 use Rattle.std.proofs.Common.{sym, ap, subst, ◌∙◌, arith, ext_get_or}
-use Rattle.std.proofs.Math.Option.{none}
-use Rattle.grammar.specs.Words.{nonterminal_count}
-use Rattle.grammar.specs.Grammar.{Grammar, grammar_of}
+use Rattle.grammar.specs.Grammar.{Grammar}
 use Rattle.grammar.specs.Buffers.{filled, cleared}
 use Rattle.grammar.specs.Desk.{CostsAndRules, desk_conditions, DeskAnswer, DeskBy}
-use Rattle.grammar.specs.Refusals.{Lowest, Outcome, given, refused}
+use Rattle.grammar.specs.Refusals.{Outcome, given, refused}
 use Rattle.grammar.specs.declared.Refusal.{Refusal}
 use Rattle.grammar.specs.Theory.Conditions.{some_none, lowest_unique}
 use Rattle.grammar.specs.Theory.Costing.{cheapest_rule_unique}
 use Rattle.grammar.specs.Theory.Due.{Above, Due, InOrder, lowest_due}
 use Rattle.grammar.specs.Theory.Outcomes.{given_refused, given_same, refused_same}
+use Rattle.grammar.specs.Theory.Desk.{DeskGives}
 
 pub desk_in_order : (ws : List ℕ) (cost_room rule_room : ℕ) → InOrder (desk_conditions ws cost_room rule_room)
 unfolding Above
@@ -27,16 +26,6 @@ costs_and_rules_unique {N} {G} {cs} {ds} {ps} {qs} x y = (
   where
     same : (k : ℕ) → k < N → (get_or cs k 0 ≡ get_or ds k 0) × (get_or ps k 0 ≡ get_or qs k 0)
     same k h = cheapest_rule_unique G.rules G.price (x.each k h) (y.each k h)
-
--- No refusal applies: N, cost and rule of each nonterminal in order, zeros behind.
-pub record DeskGives (ws : List ℕ) (cost_room rule_room n : ℕ) (costs rules : List ℕ) : Type 0 where
-  pub met : Lowest (desk_conditions ws cost_room rule_room) none
-  pub count : n ≡ nonterminal_count ws
-  pub costs_of : List ℕ
-  pub rules_of_lem : List ℕ
-  pub right : CostsAndRules (nonterminal_count ws) (grammar_of ws) costs_of rules_of_lem
-  pub costs_hold : costs ≡ filled cost_room costs_of
-  pub rules_hold : rules ≡ filled rule_room rules_of_lem
 
 module _ {ws : List ℕ} {cost_room rule_room : ℕ} where
   -- The answer and both buffers are one.

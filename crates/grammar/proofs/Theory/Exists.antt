@@ -26,14 +26,9 @@ use Rattle.grammar.specs.Theory.Paths.{Path}
 use Rattle.grammar.proofs.Theory.Paths.{path_on, path_live}
 use Rattle.grammar.proofs.Theory.Pops.{popped_exists}
 use Rattle.grammar.proofs.Theory.Bounded.{popped_count, correction_length, path_moves_bounded}
+use Rattle.grammar.specs.Theory.Exists.{Ending, Least}
 
 -- ---- The outcomes of a run, of any grammar
-
--- The run ended, or was refused by 11 or 12.
-pub data Ending : Option Refusal → Type 0 where
-  ends : Ending none
-  stack_full : Ending (some StackFull)
-  no_room : Ending (some NoRoom)
 
 ending_stack : (b : Bool) {o q : Option Refusal} → Ending o → cond b (some StackFull) o ≡ q → Ending q
 ending_stack true e h = subst (λ x. Ending x) h Ending.stack_full
@@ -57,13 +52,6 @@ run_ending (Run.moved c l r) = run_ending r
 run_ending {L = L} (Run.stopped {s = s} {x = x} c l) = subst (λ o. Ending o) l (limit_ending L s x)
 
 -- ---- The least of what is decided
-
--- A least number below b with the property.
-pub record Least (P : ℕ → Type 0) (b : ℕ) : Type 0 where
-  pub value : ℕ
-  pub small : value < b
-  pub holds : P value
-  pub least : (k : ℕ) → k < value → P k → ⊥
 
 -- The least below b, or none.
 pub least_below : (P : ℕ → Type 0) → ((n : ℕ) → Dec (P n)) → (b : ℕ) → Least P b ⊎ ((k : ℕ) → k < b → P k → ⊥)

@@ -13,7 +13,8 @@ use Rattle.grammar.specs.Pace.{Span, Clean, Ascending, wrapped, cycle_ms, total_
 use Rattle.grammar.specs.declared.Report.{Report}
 use Rattle.grammar.specs.Theory.Answered.{Admitted}
 use Rattle.grammar.proofs.Theory.Places.{walk_run, kept_token}
-use Rattle.grammar.proofs.Theory.Told.{Told, told_count, told_sum}
+use Rattle.grammar.specs.Theory.Told.{Told}
+use Rattle.grammar.proofs.Theory.Told.{told_count, told_sum}
 
 -- ---- How many
 

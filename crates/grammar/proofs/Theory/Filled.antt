@@ -18,15 +18,15 @@ use Rattle.grammar.specs.Theory.Forms.{yields_some}
 use Rattle.grammar.specs.Theory.States.{LogToken, Live}
 use Rattle.grammar.proofs.Theory.States.{state, choice_some, ended_take, live_start, live_next}
 use Rattle.grammar.proofs.Theory.Repaired.{repaired_derivable, passed_log}
+use Rattle.grammar.specs.Theory.Filled.{Filled}
 
--- The terminal string w is the repaired log of the moves with each inserted symbol so replaced.
-pub data Filled (R : Rules) : List Move → List ℕ → Type 0 where
-  nothing : Filled R [] []
-  kept : {p t : ℕ} {ms : List Move} {w : List ℕ} → Filled R ms w → Filled R (Move.match p t ∷ ms) (log_token t ++ w)
-  expanded : {q : ℕ} {ms : List Move} {w : List ℕ} → Filled R ms w → Filled R (Move.expand q ∷ ms) w
-  dropped : {X : ℕ} {ms : List Move} {w : List ℕ} → Filled R ms w → Filled R (Move.drop X ∷ ms) w
-  deleted : {p t : ℕ} {ms : List Move} {w : List ℕ} → Filled R ms w → Filled R (Move.delete p t ∷ ms) w
-  replaced : {p X : ℕ} {ms : List Move} {v w : List ℕ} → Yields R (X ∷ []) v → Filled R ms w → Filled R (Move.insert p X ∷ ms) (v ++ w)
+-- The tokens of a list with places are terminals where the list's are.
+record Tokens (x : Placed) (l : List Placed) : Type 0 where
+  terminal : Terminal x.token
+  place : ℕ
+  rest : List ℕ
+  behind : l ≡ placed place rest
+  terminals : All Terminal rest
 
 filled_derives : {R : Rules} {ms : List Move} {w : List ℕ} → Filled R ms w → Der R (repaired ms) w
 unfolding repaired
@@ -36,14 +36,6 @@ filled_derives (Filled.expanded f) = filled_derives f
 filled_derives (Filled.dropped f) = filled_derives f
 filled_derives (Filled.deleted f) = filled_derives f
 filled_derives {R = R} (Filled.replaced y f) = der_append R (to_der R y.derives) (filled_derives f)
-
--- The tokens of a list with places are terminals where the list's are.
-record Tokens (x : Placed) (l : List Placed) : Type 0 where
-  terminal : Terminal x.token
-  place : ℕ
-  rest : List ℕ
-  behind : l ≡ placed place rest
-  terminals : All Terminal rest
 
 tokens : {x : Placed} {l : List Placed} {ts : List ℕ} (p : ℕ) → All Terminal ts → x ∷ l ≡ placed p ts → Tokens x l
 unfolding placed

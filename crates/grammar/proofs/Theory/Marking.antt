@@ -27,29 +27,16 @@ use Rattle.grammar.specs.Theory.Answered.{Admitted}
 use Rattle.grammar.proofs.Theory.Answered.{admitted, log_tokens}
 use Rattle.grammar.proofs.Theory.CheapestRules as CheapestRules
 use Rattle.grammar.specs.Theory.Closed.{all_rest, closed_down}
-use Rattle.grammar.proofs.Theory.Filled.{Filled}
+use Rattle.grammar.specs.Theory.Filled.{Filled}
 use Rattle.grammar.specs.Theory.Good.{Accepted, Good, good_words, good_below}
 use Rattle.grammar.specs.Theory.Leftmost.{to_der}
 use Rattle.grammar.proofs.Theory.Places.{walk_run, kept_token}
 use Rattle.grammar.proofs.Theory.Repaired.{repaired_derivable}
 use Rattle.grammar.specs.Theory.Rewriting.{string_append}
 use Rattle.grammar.specs.Theory.Strings.{Plain, plain_words, ends_one, ends_terminals, ends_yields, ends_cost}
+use Rattle.grammar.specs.Theory.Marking.{inserted_symbols, added_tokens}
 
 -- ---- What the words' string of a symbol is
-
--- The symbols that the moves insert, and the tokens that are added among marks.
-unfoldable pub inserted_symbols : List Move → List ℕ
-inserted_symbols [] = []
-inserted_symbols (Move.match p t ∷ ms) = inserted_symbols ms
-inserted_symbols (Move.expand q ∷ ms) = inserted_symbols ms
-inserted_symbols (Move.drop X ∷ ms) = inserted_symbols ms
-inserted_symbols (Move.delete p t ∷ ms) = inserted_symbols ms
-inserted_symbols (Move.insert p X ∷ ms) = X ∷ inserted_symbols ms
-
-unfoldable pub added_tokens : List Mark → List ℕ
-added_tokens [] = []
-added_tokens (Mark.kept p t ∷ xs) = added_tokens xs
-added_tokens (Mark.added t ∷ xs) = t ∷ added_tokens xs
 
 -- ---- The parts of the list
 

@@ -21,8 +21,7 @@ use Rattle.grammar.specs.declared.Counts.{Counts}
 use Rattle.grammar.specs.declared.Report.{Report}
 use Rattle.grammar.proofs.Theory.SameGrammars.{SameGrammar, other_way, same_grammar_sym, to_run_by, to_marked, to_costs}
 use Rattle.grammar.proofs.Theory.SameGrammars.{to_reachable, to_productive, to_affordable, to_shared}
-
--- ---- What agrees
+use Rattle.grammar.specs.Theory.Meanings.{SameUntimed, SameAnswers}
 
 -- The same refusals in the same order, each under a condition that holds where the other's does.
 unfoldable pub SameConditions : List Condition → List Condition → Type 0
@@ -39,6 +38,8 @@ pub record Alike (M K : Meaning) : Type 0 where
   pub opening : M.opening ≡ K.opening
   pub closing : M.closing ≡ K.closing
   pub restart : M.restart ≡ K.restart
+
+-- ---- What agrees
 
 -- ---- It agrees the other way round
 
@@ -178,24 +179,6 @@ module _ {M K : Meaning} (s : Alike M K) where
             subst (λ u. ParsesBy (timed u log ticks) K log edit_room rule_room p.outcome es rs) unit (to_parses p.parses);
         reports = to_reports p.reports;
       }
-
--- Every answer to the one is an answer to the other, with the same words in every buffer, whatever log and lengths are lent: of those that
--- time nothing,
-pub record SameUntimed (M K : Meaning) : Type 1 where
-  pub verdict : (o : Option Refusal) → VerdictBy M o ↔ VerdictBy K o
-  pub desk : (cost_room rule_room : ℕ) (a : Outcome ℕ) (costs rules : List ℕ)
-      → DeskBy M cost_room rule_room a costs rules ↔ DeskBy K cost_room rule_room a costs rules
-  pub parsed : (Asked : Asks) (log : List ℕ) (edit_room rule_room : ℕ) (a : Outcome Counts) (es rs : List ℕ)
-      → ParsedBy Asked M log edit_room rule_room a es rs ↔ ParsedBy Asked K log edit_room rule_room a es rs
-  pub marks : (word_of : Mark → ℕ) (Asked : Asks) (log : List ℕ) (edit_room rule_room token_room : ℕ) (a : Outcome (Counts × ℕ))
-      (es rs ts : List ℕ) → MarksBy word_of Asked M log edit_room rule_room token_room a es rs ts
-      ↔ MarksBy word_of Asked K log edit_room rule_room token_room a es rs ts
-
--- and of the report, whatever the ticks.
-pub record SameAnswers (M K : Meaning) : Type 1 where
-  pub untimed : SameUntimed M K
-  pub reported : (log ticks : List ℕ) (edit_room rule_room : ℕ) (a : Outcome (Report × Counts)) (es rs : List ℕ)
-      → ReportedBy M log ticks edit_room rule_room a es rs ↔ ReportedBy K log ticks edit_room rule_room a es rs
 
 pub alike_untimed : {M K : Meaning} → Alike M K → SameUntimed M K
 alike_untimed s =

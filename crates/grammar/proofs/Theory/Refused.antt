@@ -17,9 +17,10 @@ use Rattle.grammar.specs.declared.Counts.{Counts}
 use Rattle.grammar.specs.declared.Report.{Report}
 use Rattle.grammar.specs.Theory.Answered.{conditions_from10}
 use Rattle.grammar.proofs.Theory.Answered.{admitted, runs_determined, settled_unique}
-use Rattle.grammar.specs.Theory.Conditions.{Held, lowest_unique}
+use Rattle.grammar.specs.Theory.Conditions.{lowest_unique}
 use Rattle.grammar.specs.Theory.Due.{Above, Due, InOrder, Without, due_behind, lowest_due, lowest_held}
 use Rattle.grammar.specs.Theory.Outcomes.{given_refused, given_same, refused_same}
+use Rattle.grammar.specs.Theory.Refused.{Given}
 
 -- ---- The conditions stand in the order of their numbers
 
@@ -54,12 +55,6 @@ lowest_exactly {cs} l r = (
 )
 
 -- ---- The run of a log, which the parser and the report share
-
--- Refusal r is given: it is due before the run; or all conditions hold, and the run makes the moves ms and meets it.
-pub data Given (Asked : Asks) (ws log : List ℕ) (edit_room rule_room : ℕ) (r : Refusal) : Type 0 where
-  before : Due (run_conditions ws log Asked) r → Given Asked ws log edit_room rule_room r
-  within : {ms : List Move} → Held (run_conditions ws log Asked) → RunOf ws log edit_room rule_room ms (some r)
-      → Given Asked ws log edit_room rule_room r
 
 -- A refusal of a lower number is another one.
 pub other : {r q : Refusal} → number_of r < number_of q → r ≡ q → ⊥

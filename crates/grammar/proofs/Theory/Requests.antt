@@ -9,7 +9,7 @@ use Rattle.grammar.specs.Derivation.{CanBeEmpty, Yields}
 use Rattle.grammar.specs.Cost.{string_cost, ListCost, CheapestRule, Ends}
 use Rattle.grammar.specs.Grammar.{RuleOf, Verdict, VerdictBy, grammar_of, meaning_of}
 use Rattle.grammar.specs.Moves.{Move, edits}
-use Rattle.grammar.specs.Run.{Pop, Choice, correcting, State, started, made, LogFits, no_more, RunOf}
+use Rattle.grammar.specs.Run.{Pop, Choice, correcting, State, made, LogFits, no_more, RunOf}
 use Rattle.grammar.specs.Pace.{Kept, Edited, Span, Cycle, Clean, Reported}
 use Rattle.grammar.specs.Buffers.{filled, cleared, Fills}
 use Rattle.grammar.specs.File.{FileRead}
@@ -22,26 +22,28 @@ use Rattle.grammar.specs.declared.Report.{Report}
 use Rattle.grammar.specs.declared.Refusal.TheVariants.{BadShape, Hundredths}
 use Rattle.grammar.proofs.Theory.Answered.{log_tokens}
 use Rattle.grammar.proofs.Theory.Behind as Behind
-use Rattle.grammar.proofs.Theory.Behind.{seven_words, six_form}
+use Rattle.grammar.specs.Theory.Behind.{seven_words, six_form}
 use Rattle.grammar.specs.Theory.Blocks.{blocks_below}
 use Rattle.grammar.proofs.Theory.CheapestRules as CheapestRules
 use Rattle.grammar.specs.Theory.Conditions.{Held, held, all_met, applies, passes}
 use Rattle.grammar.specs.Theory.Costing.{cheapest_rule_unique}
-use Rattle.grammar.proofs.Theory.Demands.{Answered, repaired_correct}
+use Rattle.grammar.specs.Theory.Demands.{Answered}
+use Rattle.grammar.proofs.Theory.Demands.{repaired_correct}
 use Rattle.grammar.proofs.Theory.Desk as Desk
-use Rattle.grammar.proofs.Theory.Desk.{DeskGives}
+use Rattle.grammar.specs.Theory.Desk.{DeskGives}
 use Rattle.grammar.specs.Theory.Due.{Due, InOrder}
 use Rattle.grammar.proofs.Theory.Earlier as Earlier
-use Rattle.grammar.proofs.Theory.Earlier.{EarlierRun, AsEarlier}
+use Rattle.grammar.specs.Theory.Earlier.{AsEarlier}
 use Rattle.grammar.proofs.Theory.FewCycles.{told_4095, told_most}
-use Rattle.grammar.proofs.Theory.Filled.{Filled}
+use Rattle.grammar.specs.Theory.Filled.{Filled}
 use Rattle.grammar.specs.Theory.Fills.{fills_unique, fills_exactly, fills_zeros, fills_content, front_of}
 use Rattle.grammar.specs.Theory.Good.{accepted, good_words}
 use Rattle.grammar.proofs.Theory.MarkAnswers as MarkAnswers
-use Rattle.grammar.proofs.Theory.MarkAnswers.{MarksRefuse, MarksGive}
+use Rattle.grammar.specs.Theory.MarkAnswers.{MarksRefuse, MarksGive}
 use Rattle.grammar.proofs.Theory.Marking as Marking
-use Rattle.grammar.proofs.Theory.Marking.{inserted_symbols, added_tokens}
-use Rattle.grammar.proofs.Theory.Meanings.{SameUntimed, SameAnswers, alike_untimed, alike_answers}
+use Rattle.grammar.specs.Theory.Marking.{inserted_symbols, added_tokens}
+use Rattle.grammar.specs.Theory.Meanings.{SameUntimed, SameAnswers}
+use Rattle.grammar.proofs.Theory.Meanings.{alike_untimed, alike_answers}
 use Rattle.grammar.specs.Theory.OnlyFile as OnlyFile
 use Rattle.grammar.specs.Theory.OnlyFile.{Below}
 use Rattle.grammar.proofs.Theory.ReadBack.{file_right, file_holds, is_blocks}
@@ -50,6 +52,7 @@ use Rattle.grammar.proofs.Theory.SixWords as SixWords
 use Rattle.grammar.proofs.Theory.Told.{told}
 use Rattle.grammar.proofs.Theory.Unpaced as Unpaced
 use Rattle.grammar.proofs.Theory.SixWords.{six_words}
+use Rattle.grammar.specs.Theory.Requests.{EarlierRunOf}
 
 -- ======== (i) Write grammar files too
 
@@ -123,10 +126,6 @@ module _ (ws : List ℕ) (s : State) {j i : ℕ} {ps : List Pop} (chosen : Choic
   -- "A correction still leaves at least one record."
   pub correction_leaves_record : 1 ≤ length (edits (made s (correcting j i ps)))
   correction_leaves_record = Earlier.leaves_record (grammar_of ws) s chosen
-
--- The run of a log by 01's rule, in which a correction inserts each symbol that it pops.
-abbrev pub EarlierRunOf : List ℕ → List ℕ → List Move → Type 0
-EarlierRunOf ws log = EarlierRun (grammar_of ws) (started (grammar_of ws).begin log)
 
 module _ (ws log : List ℕ) (accepts : Verdict ws none) (fits : LogFits ws log) {edit_room rule_room : ℕ} {ms : List Move}
     (run : RunOf ws log edit_room rule_room ms none) where

@@ -31,8 +31,10 @@ use Rattle.grammar.specs.Theory.States.{LogToken}
 use Rattle.grammar.proofs.Theory.States.{state, live_start}
 use Rattle.grammar.specs.Theory.Places.{Walk, Deleted}
 use Rattle.grammar.proofs.Theory.Places.{walk_run, kept_apart}
-use Rattle.grammar.proofs.Theory.Earlier.{inserts, made_earlier, EarlierRun, AsEarlier, earlier_determined}
-use Rattle.grammar.proofs.Theory.Earlier.{Beside, beside_append, beside_many, beside_listed, beside_tokens, beside_records}
+use Rattle.grammar.specs.Theory.Earlier.{inserts, made_earlier, EarlierRun, AsEarlier}
+use Rattle.grammar.proofs.Theory.Earlier.{earlier_determined}
+use Rattle.grammar.specs.Theory.Earlier.{Beside}
+use Rattle.grammar.proofs.Theory.Earlier.{beside_append, beside_many, beside_listed, beside_tokens, beside_records}
 use Rattle.grammar.proofs.Theory.Earlier.{beside_made, without_member, kept_there, kept_here}
 
 -- ---- Where 01 has a record

@@ -21,7 +21,7 @@ use Rattle.grammar.specs.declared.Counts.{Counts}
 use Rattle.grammar.specs.Theory.Good.{accepted, good_words}
 use Rattle.grammar.specs.Theory.Paths.{Path}
 use Rattle.grammar.proofs.Theory.Exists as Exists
-use Rattle.grammar.proofs.Theory.Exists.{Ending}
+use Rattle.grammar.specs.Theory.Exists.{Ending}
 use Rattle.grammar.proofs.Theory.Decided.{dec_first_of, dec_empty_of, dec_reliable_of}
 use Rattle.grammar.specs.Theory.Predictive as Predictive
 use Rattle.grammar.proofs.Theory.Chosen as Chosen
@@ -30,6 +30,7 @@ use Rattle.grammar.proofs.Theory.Answered as AnswersOf
 use Rattle.grammar.specs.Theory.Conditions.{lowest_unique}
 use Rattle.grammar.specs.Theory.Due.{Due, lowest_held}
 use Rattle.grammar.specs.Theory.Fills.{fills_unique}
+use Rattle.grammar.specs.Theory.Refused.{Given}
 use Rattle.grammar.proofs.Theory.Refused as Refused
 use Rattle.grammar.proofs.Theory.Room as Room
 
@@ -107,9 +108,9 @@ room_enough : {Asked : Asks} {ws log : List ℕ} {edit_room rule_room : ℕ} {o 
     → o ≡ refused NoRoom → ⊥
 room_enough {Asked} {ws} {log} {edit_room} {rule_room} behind p edits_fit rules_fit e = go ((Refused.parses_exactly p NoRoom).0 e)
   where
-    go : Refused.Given Asked ws log edit_room rule_room NoRoom → ⊥
-    go (Refused.Given.before d) = Refused.due_not_room ws log Asked behind d
-    go (Refused.Given.within h run) =
+    go : Given Asked ws log edit_room rule_room NoRoom → ⊥
+    go (Given.before d) = Refused.due_not_room ws log Asked behind d
+    go (Given.within h run) =
         let a = AnswersOf.admitted ((lowest_held (run_conditions ws log Asked)).1 h) in
         let most : nonterminal_count ws ≤ 64 = a.words.shaped.nonterminals_high in
         let times : nonterminal_count ws * length log ≤ 64 * length log = mul-le-mul_right (length log) most in

@@ -9,22 +9,13 @@ use Rattle.grammar.specs.Words.{opening, closing, restart_mark, tick_unit}
 use Rattle.grammar.specs.Moves.{Move}
 use Rattle.grammar.specs.Refusals.{Outcome, given}
 use Rattle.grammar.specs.Run.{RunOf, Settled, run_conditions}
-use Rattle.grammar.specs.Pace.{Span, Clean, CleanCycles, total_ms, pace_of, report_of, timed, Reports, Reported, ReportsBy}
+use Rattle.grammar.specs.Pace.{Span, Clean, total_ms, pace_of, report_of, timed, Reports, Reported, ReportsBy}
 use Rattle.grammar.specs.declared.Pace.TheVariants.{Idle}
 use Rattle.grammar.specs.declared.Report.{Report}
 use Rattle.grammar.specs.declared.Counts.{Counts}
 use Rattle.grammar.specs.Theory.Outcomes.{given_refused, given_same}
-use Rattle.grammar.specs.Theory.Answered.{Admitted}
 use Rattle.grammar.proofs.Theory.Answered.{admitted, runs_determined}
-
--- The run that was reported, and its clean cycles.
-pub record Told (ws log ticks : List ℕ) (edit_room rule_room : ℕ) (report : Report) : Type 0 where
-  pub admits : Admitted ws log
-  pub moves : List Move
-  pub run : RunOf ws log edit_room rule_room moves none
-  pub cycles : List Span
-  pub clean : CleanCycles (opening ws) (closing ws) (restart_mark ws) moves cycles
-  pub made : report ≡ report_of ticks cycles
+use Rattle.grammar.specs.Theory.Told.{Told}
 
 told_by : {ws log ticks : List ℕ} {edit_room rule_room : ℕ} {o : Outcome (List Move)} {a : Outcome (Report × Counts)} {report : Report}
     {counts : Counts} → Settled (run_conditions ws log (timed (tick_unit ws) log ticks)) (RunOf ws log edit_room rule_room) o

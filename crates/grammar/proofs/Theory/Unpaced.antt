@@ -19,11 +19,12 @@ use Rattle.grammar.specs.Theory.Answered.{conditions_from10}
 use Rattle.grammar.proofs.Theory.Answered.{verdict_held, log_held, behind_held, reported_unique}
 use Rattle.grammar.specs.Theory.Conditions.{Held, applies, passes, held_front, some_none}
 use Rattle.grammar.specs.Theory.Due.{Due, due_behind, lowest_held}
-use Rattle.grammar.proofs.Theory.Exists.{Ending}
+use Rattle.grammar.specs.Theory.Exists.{Ending}
 use Rattle.grammar.specs.Theory.Fills.{fills_exactly}
 use Rattle.grammar.proofs.Theory.Headers.{unit_one}
 use Rattle.grammar.specs.Theory.Outcomes.{given_refused}
-use Rattle.grammar.proofs.Theory.Refused.{Given, grammar_without, other, parses_exactly, reports_refused}
+use Rattle.grammar.specs.Theory.Refused.{Given}
+use Rattle.grammar.proofs.Theory.Refused.{grammar_without, other, parses_exactly, reports_refused}
 use Rattle.grammar.proofs.Theory.Sentences.{run_determined, run_exists}
 
 -- A number that is not other than another is it.

@@ -1,11 +1,10 @@
 -- `growth::close` meets its contract: what is not on the list is passed on. The measure falls with each set that is taken off it.
 use native.Mathlib.Omega.{arith}
-use Prim.Native.Nat.{ℕ, ◌^◌, ◌<◌}
-use mathlib.Core.Path.{◌≡◌, refl, sym, ap, ◌∙◌, subst}
+use Prim.Native.Nat.{◌^◌, ◌<◌}
+use mathlib.Core.Path.{refl, sym, ap, ◌∙◌, subst}
 use Rattle.sets.specs.Operations.{union}
-use lib.ListN.{length}
 use Rattle.growth.specs.Sums.{sum_below}
-use Rattle.growth.specs.Closing.{Opened, left, end_below, end_held, close_begins, close_goes, close_ends, close_less}
+use Rattle.growth.specs.Closing.{left, end_below, end_held, close_begins, close_goes, close_ends, close_less}
 use Rattle.std.proofs.Common.{rules}
 use Rattle.growth.proofs.close.Goals as goal
 

@@ -1,10 +1,4 @@
-use native.Mathlib.Omega.{arith}
-use Prim.Native.Nat.{ℕ, ◌^◌, ◌<◌}
-use mathlib.Core.Path.{◌≡◌, refl, sym, ap, ◌∙◌, subst}
-use Rattle.sets.specs.Operations.{union}
-use lib.ListN.{length}
-use Rattle.growth.specs.Sums.{sum_below}
-use Rattle.growth.specs.Closing.{Opened, left, end_below, end_held, close_begins, close_goes, close_ends, close_less}
+use Rattle.growth.specs.Closing.{Opened, left}
 use Rattle.growth.proofs.close.Given as goal
 
 abbrev pub invariant-loop-waiting : goal.invariant-loop-waiting

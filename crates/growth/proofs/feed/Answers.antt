@@ -1,10 +1,7 @@
 -- `growth::feed` meets its contract: a mask without members adds nothing; any other is added to all but the rest. The measure is the rest.
 use native.Mathlib.Omega.{arith}
-use Prim.Native.Nat.{ℕ, ◌<◌}
-use mathlib.Core.Path.{◌≡◌, sym, ◌∙◌, subst}
-use lib.ListN.{length}
 use Rattle.sets.specs.Taking.{without_less}
-use Rattle.growth.specs.Closing.{Feeding, feed_none, feed_begins, feed_goes, feed_ends}
+use Rattle.growth.specs.Closing.{feed_none, feed_begins, feed_goes, feed_ends}
 use Rattle.growth.proofs.feed.Goals as goal
 
 pub returns-then-mask-eq0 : goal.returns-then-mask-eq0

@@ -1,9 +1,4 @@
-use native.Mathlib.Omega.{arith}
-use Prim.Native.Nat.{ℕ, ◌<◌}
-use mathlib.Core.Path.{◌≡◌, sym, ◌∙◌, subst}
-use lib.ListN.{length}
-use Rattle.sets.specs.Taking.{without_less}
-use Rattle.growth.specs.Closing.{Feeding, feed_none, feed_begins, feed_goes, feed_ends}
+use Rattle.growth.specs.Closing.{Feeding}
 use Rattle.growth.proofs.feed.Given as goal
 
 abbrev pub invariant-loop-rest : goal.invariant-loop-rest

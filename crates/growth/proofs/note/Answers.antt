@@ -1,8 +1,6 @@
 -- `growth::note` meets its contract.
-use native.Mathlib.Omega.{arith}
-use mathlib.Core.Path.{◌≡◌, refl, sym, ◌∙◌}
+use mathlib.Core.Path.{refl, sym, ◌∙◌}
 use mathlib.Core.Bool.{true≢false}
-use Rattle.growth.specs.Closing.{Noted}
 use Rattle.growth.proofs.note.Goals as goal
 
 pub returns-then-yes : goal.returns-then-yes

@@ -1,19 +1,7 @@
 -- `growth::reach` meets its contract: what is done has been stepped on from and is emptied. The measure is what is left to be done.
 use native.Mathlib.Omega.{arith}
-use Prim.Native.Nat.{◌-◌, ◌^◌, ◌<◌}
-use mathlib.Core.Path.{◌≡◌}
-use Rattle.growth.specs.Along.{
-  Reaching,
-  Spent,
-  along_begins,
-  along_goes,
-  along_ends,
-  along_less,
-  spent_begins,
-  spent_goes,
-  spent_ends,
-  spent_unstepped,
-}
+use Prim.Native.Nat.{◌^◌, ◌<◌}
+use Rattle.growth.specs.Along.{along_begins, along_goes, along_ends, along_less, spent_begins, spent_goes, spent_ends, spent_unstepped}
 use Rattle.std.proofs.Common.{rules}
 use Rattle.growth.proofs.reach.Goals as goal
 

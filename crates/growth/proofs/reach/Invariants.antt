@@ -1,18 +1,5 @@
-use native.Mathlib.Omega.{arith}
-use Prim.Native.Nat.{◌-◌, ◌^◌, ◌<◌}
-use mathlib.Core.Path.{◌≡◌}
-use Rattle.growth.specs.Along.{
-  Reaching,
-  Spent,
-  along_begins,
-  along_goes,
-  along_ends,
-  along_less,
-  spent_begins,
-  spent_goes,
-  spent_ends,
-  spent_unstepped,
-}
+use Prim.Native.Nat.{◌-◌, ◌^◌}
+use Rattle.growth.specs.Along.{Reaching, Spent}
 use Rattle.growth.proofs.reach.Given as goal
 
 abbrev pub invariant-loop-reached : goal.invariant-loop-reached

@@ -1,10 +1,8 @@
 -- `mentions::gather` meets its contract: the rules in front of p are in their rows.
 use native.Mathlib.Omega.{arith}
-use Prim.Native.Nat.{◌-◌, ◌≤◌, ◌<◌, ◌^◌}
-use mathlib.Core.Path.{◌≡◌, refl, sym, ◌∙◌, subst}
-use lib.ListN.{length}
+use Prim.Native.Nat.{◌<◌, ◌^◌}
+use mathlib.Core.Path.{◌≡◌, refl, sym, ◌∙◌}
 use Rattle.grammar.specs.Words.{rule_count}
-use Rattle.mentions.specs.Mentions.{Gathered, Used, MentionsOf, UsesOf}
 use Rattle.mentions.specs.Gathering.{gather_begins, gather_goes, gather_ends, use_begins, use_goes, use_ends}
 use Rattle.std.proofs.Common.{rules}
 use Rattle.mentions.proofs.gather.Goals as goal

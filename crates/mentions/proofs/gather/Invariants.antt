@@ -1,10 +1,8 @@
-use native.Mathlib.Omega.{arith}
-use Prim.Native.Nat.{◌-◌, ◌≤◌, ◌<◌, ◌^◌}
-use mathlib.Core.Path.{◌≡◌, refl, sym, ◌∙◌, subst}
+use Prim.Native.Nat.{◌-◌, ◌≤◌}
+use mathlib.Core.Path.{◌≡◌}
 use lib.ListN.{length}
 use Rattle.grammar.specs.Words.{rule_count}
-use Rattle.mentions.specs.Mentions.{Gathered, Used, MentionsOf, UsesOf}
-use Rattle.mentions.specs.Gathering.{gather_begins, gather_goes, gather_ends, use_begins, use_goes, use_ends}
+use Rattle.mentions.specs.Mentions.{Gathered, Used}
 use Rattle.mentions.proofs.gather.Given as goal
 
 abbrev pub invariant-loop-p : goal.invariant-loop-p

@@ -1,7 +1,6 @@
 -- `mentions::mention` meets its contract: rule p is in the rows of its symbols from i on. The measure is i.
 use native.Mathlib.Omega.{arith}
-use mathlib.Core.Path.{sym, ◌∙◌}
-use Rattle.mentions.specs.Putting.{Mentioned, mention_begins, mention_goes, mention_ends}
+use Rattle.mentions.specs.Putting.{mention_begins, mention_goes, mention_ends}
 use Rattle.mentions.proofs.mention.Goals as goal
 
 pub size_of-i-requires : goal.size_of-i-requires

@@ -1,6 +1,4 @@
-use native.Mathlib.Omega.{arith}
-use mathlib.Core.Path.{sym, ◌∙◌}
-use Rattle.mentions.specs.Putting.{Mentioned, mention_begins, mention_goes, mention_ends}
+use Rattle.mentions.specs.Putting.{Mentioned}
 use Rattle.mentions.proofs.mention.Given as goal
 
 abbrev pub invariant-loop-i : goal.invariant-loop-i

@@ -1,5 +1,4 @@
 -- `mentions::put_plain` meets its contract.
-use native.Mathlib.Omega.{arith}
 use Rattle.mentions.specs.Putting.{plain_none, plain_one}
 use Rattle.mentions.proofs.put_plain.Goals as goal
 

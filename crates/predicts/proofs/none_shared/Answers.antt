@@ -1,10 +1,8 @@
 -- `predicts::none_shared` meets its contract: the rules in front of p share no token (`Seen`).
 use native.Mathlib.Omega.{arith}
-use Prim.Native.Nat.{◌-◌}
-use mathlib.Core.Path.{◌≡◌, sym, ◌∙◌}
-use lib.ListN.{length}
+use mathlib.Core.Path.{sym, ◌∙◌}
 use Rattle.base.specs.Telling.{told, denied}
-use Rattle.predicts.specs.Seen.{Seen, seen_begins, seen_goes, seen_fails, seen_ends}
+use Rattle.predicts.specs.Seen.{seen_begins, seen_goes, seen_fails, seen_ends}
 use Rattle.predicts.proofs.none_shared.Goals as goal
 
 pub rule_count-count-requires : goal.rule_count-count-requires

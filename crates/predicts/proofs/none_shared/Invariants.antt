@@ -1,9 +1,7 @@
-use native.Mathlib.Omega.{arith}
 use Prim.Native.Nat.{◌-◌}
-use mathlib.Core.Path.{◌≡◌, sym, ◌∙◌}
+use mathlib.Core.Path.{◌≡◌}
 use lib.ListN.{length}
-use Rattle.base.specs.Telling.{told, denied}
-use Rattle.predicts.specs.Seen.{Seen, seen_begins, seen_goes, seen_fails, seen_ends}
+use Rattle.predicts.specs.Seen.{Seen}
 use Rattle.predicts.proofs.none_shared.Given as goal
 
 abbrev pub invariant-loop-p : goal.invariant-loop-p

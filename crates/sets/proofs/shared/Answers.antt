@@ -22,4 +22,3 @@ tells a b ha hb =
 
 pub returns : goal.returns
 returns c = tells _ _ (search rules) (search rules)
-

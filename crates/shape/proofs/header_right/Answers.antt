@@ -3,7 +3,6 @@ use native.Mathlib.Omega.{arith}
 use Rattle.base.specs.Telling.{denied}
 use Rattle.shape.proofs.Judging.{terminals_as, marks_as, restart_as, header_tells}
 use Rattle.grammar.proofs.Theory.Headers.{size_least}
-use Rattle.std.proofs.Common.{rules}
 use Rattle.shape.proofs.header_right.Goals as goal
 
 pub returns-then-words-lt-LEAST : goal.returns-then-words-lt-LEAST

@@ -1,11 +1,10 @@
 -- `shape::rules_right` meets its contract: the rules in front of p are right, and their places stand in
 -- the table. The measure is what is left of P.
 use native.Mathlib.Omega.{arith}
-use mathlib.Core.Path.{◌≡◌, refl, ◌∙◌}
-use Prim.Native.Nat.{◌-◌}
-use lib.ListN.{length, length-set}
+use mathlib.Core.Path.{refl, ◌∙◌}
+use lib.ListN.{length-set}
 use Rattle.shape.proofs.Judging.{header_some, size_small}
-use Rattle.shape.proofs.Placing.{Passed, begun, more, over, refused, fits_word}
+use Rattle.shape.proofs.Placing.{begun, more, over, refused, fits_word}
 use Rattle.shape.proofs.rules_right.Goals as goal
 
 pub bounds-words-2 : goal.bounds-words-2

@@ -1,9 +1,7 @@
-use native.Mathlib.Omega.{arith}
-use mathlib.Core.Path.{◌≡◌, refl, ◌∙◌}
+use mathlib.Core.Path.{◌≡◌}
 use Prim.Native.Nat.{◌-◌}
-use lib.ListN.{length, length-set}
-use Rattle.shape.proofs.Judging.{header_some, size_small}
-use Rattle.shape.proofs.Placing.{Passed, begun, more, over, refused, fits_word}
+use lib.ListN.{length}
+use Rattle.shape.proofs.Placing.{Passed}
 use Rattle.shape.proofs.rules_right.Given as goal
 
 abbrev pub invariant-loop-p : goal.invariant-loop-p

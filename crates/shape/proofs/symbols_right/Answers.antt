@@ -1,9 +1,7 @@
 -- `shape::symbols_right` meets its contract: the symbols in front of i are right. The measure is what is left.
 use native.Mathlib.Omega.{arith}
 use Rattle.base.specs.Telling.{told, denied}
-use Prim.Native.Nat.{ℕ, ◌+◌, ◌-◌, ◌<◌}
 use borrow.Author.Count.{below_more}
-use Rattle.grammar.specs.Words.{word, RuleSymbol}
 use Rattle.shape.proofs.symbols_right.Goals as goal
 
 pub loop-i-init : goal.loop-i-init

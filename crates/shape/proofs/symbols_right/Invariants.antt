@@ -1,7 +1,4 @@
-use native.Mathlib.Omega.{arith}
-use Rattle.base.specs.Telling.{told, denied}
 use Prim.Native.Nat.{ℕ, ◌+◌, ◌-◌, ◌<◌}
-use borrow.Author.Count.{below_more}
 use Rattle.grammar.specs.Words.{word, RuleSymbol}
 use Rattle.shape.proofs.symbols_right.Given as goal
 

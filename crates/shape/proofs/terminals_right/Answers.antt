@@ -1,11 +1,7 @@
 -- `shape::terminals_right` meets its contract: the words of the terminals in front of t are right. The measure is what is left.
 use native.Mathlib.Omega.{arith}
 use Rattle.base.specs.Telling.{told, denied}
-use Prim.Native.Nat.{ℕ, ◌+◌, ◌-◌, ◌*◌, ◌≤◌, ◌<◌}
-use lib.ListN.{length}
-use Rattle.grammar.specs.Words.{terminal_count}
 use borrow.Author.Count.{below_more}
-use Rattle.shape.specs.Parts.{TerminalRight}
 use Rattle.shape.proofs.Judging.{header_some, cost_as, reliability_as, terminal_right}
 use Rattle.shape.proofs.terminals_right.Goals as goal
 

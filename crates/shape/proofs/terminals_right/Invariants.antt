@@ -1,11 +1,5 @@
-use native.Mathlib.Omega.{arith}
-use Rattle.base.specs.Telling.{told, denied}
-use Prim.Native.Nat.{ℕ, ◌+◌, ◌-◌, ◌*◌, ◌≤◌, ◌<◌}
-use lib.ListN.{length}
-use Rattle.grammar.specs.Words.{terminal_count}
-use borrow.Author.Count.{below_more}
+use Prim.Native.Nat.{ℕ, ◌-◌, ◌≤◌, ◌<◌}
 use Rattle.shape.specs.Parts.{TerminalRight}
-use Rattle.shape.proofs.Judging.{header_some, cost_as, reliability_as, terminal_right}
 use Rattle.shape.proofs.terminals_right.Given as goal
 
 abbrev pub invariant-loop-t : goal.invariant-loop-t

@@ -1,7 +1,6 @@
 -- `test_buffers::digest` meets its contract: the sum is that of the words passed, below the modulus, so that the next product fits. The
 -- measure is what is left.
-use Prim.Native.Nat.{◌-◌, ◌<◌, ◌≤◌}
-use mathlib.Core.Path.{◌≡◌, sym, ap, ◌∙◌}
+use mathlib.Core.Path.{sym, ap, ◌∙◌}
 use native.Mathlib.Omega.{arith}
 use Rattle.test_buffers.specs.Digest.{digest_of, digest_none, digest_more, digest_step}
 use Rattle.test_buffers.proofs.digest.Goals as goal

@@ -1,7 +1,6 @@
 use Prim.Native.Nat.{◌-◌, ◌<◌, ◌≤◌}
-use mathlib.Core.Path.{◌≡◌, sym, ap, ◌∙◌}
-use native.Mathlib.Omega.{arith}
-use Rattle.test_buffers.specs.Digest.{digest_of, digest_none, digest_more, digest_step}
+use mathlib.Core.Path.{◌≡◌}
+use Rattle.test_buffers.specs.Digest.{digest_of}
 use Rattle.test_buffers.proofs.digest.Given as goal
 
 abbrev pub invariant-loop-i : goal.invariant-loop-i

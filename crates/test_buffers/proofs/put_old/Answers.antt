@@ -1,7 +1,5 @@
 -- `test_buffers::put_old` meets its contract: the invariant is `Clearing`. The measure is what is left.
-use Prim.Native.Nat.{◌-◌}
-use lib.ListN.{length}
-use Rattle.base.specs.Clearing.{Clearing, clearing_begins, clearing_more, clearing_all}
+use Rattle.base.specs.Clearing.{clearing_begins, clearing_more, clearing_all}
 use Rattle.test_buffers.proofs.put_old.Goals as goal
 
 pub loop-i-init : goal.loop-i-init

@@ -1,6 +1,6 @@
 use Prim.Native.Nat.{◌-◌}
 use lib.ListN.{length}
-use Rattle.base.specs.Clearing.{Clearing, clearing_begins, clearing_more, clearing_all}
+use Rattle.base.specs.Clearing.{Clearing}
 use Rattle.test_buffers.proofs.put_old_bytes.Given as goal
 
 abbrev pub invariant-loop-i : goal.invariant-loop-i

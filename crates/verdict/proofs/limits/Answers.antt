@@ -1,8 +1,7 @@
 -- `verdict::limits` meets its contract: END and the terminals in front of t have their limits (`Limits`).
 use native.Mathlib.Omega.{arith}
-use Prim.Native.Nat.{◌-◌}
 use mathlib.Core.Path.{sym, ◌∙◌}
-use Rattle.verdict.specs.Prices.{Limits, limits_begin, limits_go, limits_end}
+use Rattle.verdict.specs.Prices.{limits_begin, limits_go, limits_end}
 use Rattle.verdict.proofs.limits.Goals as goal
 
 pub terminal_count-count-requires : goal.terminal_count-count-requires

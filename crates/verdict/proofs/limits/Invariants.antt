@@ -1,7 +1,5 @@
-use native.Mathlib.Omega.{arith}
 use Prim.Native.Nat.{◌-◌}
-use mathlib.Core.Path.{sym, ◌∙◌}
-use Rattle.verdict.specs.Prices.{Limits, limits_begin, limits_go, limits_end}
+use Rattle.verdict.specs.Prices.{Limits}
 use Rattle.verdict.proofs.limits.Given as goal
 
 abbrev pub invariant-loop-t : goal.invariant-loop-t

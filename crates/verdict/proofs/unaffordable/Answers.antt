@@ -1,6 +1,5 @@
 -- `verdict::unaffordable` meets its contract.
-use native.Mathlib.Omega.{arith}
-use mathlib.Core.Path.{◌≡◌, refl}
+use mathlib.Core.Path.{refl}
 use Rattle.verdict.specs.Prices.{Dear}
 use Rattle.verdict.proofs.unaffordable.Goals as goal
 

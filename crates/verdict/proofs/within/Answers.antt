@@ -1,6 +1,6 @@
 -- `verdict::within` meets its contract: the entries in front of k are at most the limit.
 use native.Mathlib.Omega.{arith}
-use Prim.Native.Nat.{ℕ, ◌+◌, ◌<◌, ◌≤◌, ◌-◌}
+use Prim.Native.Nat.{◌+◌, ◌≤◌}
 use borrow.Author.Count.{below_more}
 use lib.ListN.{get_or}
 use Rattle.base.specs.Telling.{told, denied}

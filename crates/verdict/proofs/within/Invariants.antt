@@ -1,8 +1,5 @@
-use native.Mathlib.Omega.{arith}
 use Prim.Native.Nat.{ℕ, ◌+◌, ◌<◌, ◌≤◌, ◌-◌}
-use borrow.Author.Count.{below_more}
 use lib.ListN.{get_or}
-use Rattle.base.specs.Telling.{told, denied}
 use Rattle.verdict.proofs.within.Given as goal
 
 abbrev pub invariant-loop-k : goal.invariant-loop-k

@@ -1,8 +1,7 @@
 -- `writer::put_words` meets its contract: the first i words are written (`WordsPut`). The measure is what is left.
 use native.Mathlib.Omega.{arith}
-use Prim.Native.Nat.{◌-◌, ◌≤◌}
 use native.Mathlib.Omega.{arith}
-use Rattle.writer.proofs.Putting.{WordsPut, words_begin, words_go, words_end}
+use Rattle.writer.proofs.Putting.{words_begin, words_go, words_end}
 use Rattle.writer.proofs.put_words.Goals as goal
 
 pub loop-i-init : goal.loop-i-init

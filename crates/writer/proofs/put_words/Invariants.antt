@@ -1,7 +1,5 @@
-use native.Mathlib.Omega.{arith}
 use Prim.Native.Nat.{◌-◌, ◌≤◌}
-use native.Mathlib.Omega.{arith}
-use Rattle.writer.proofs.Putting.{WordsPut, words_begin, words_go, words_end}
+use Rattle.writer.proofs.Putting.{WordsPut}
 use Rattle.writer.proofs.put_words.Given as goal
 
 abbrev pub invariant-loop-i : goal.invariant-loop-i

@@ -1,9 +1,6 @@
 -- `writer::write` meets its contract: each test tells whether its refusal applies, and the buffer that was cleared first is what a
 -- refusal leaves and what the blocks are written into.
 use native.Mathlib.Omega.{arith}
-use lib.ListN.{length}
-use Rattle.grammar.specs.Words.{UnitOne}
-use Rattle.grammar.specs.Writing.{WordCount}
 use Rattle.grammar.specs.Theory.Fills.{made_clear, lent_clear}
 use Rattle.writer.proofs.Answering.{refuses_count, refuses_unit, refuses_room, writes}
 use Rattle.writer.proofs.write.Goals as goal

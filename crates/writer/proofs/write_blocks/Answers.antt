@@ -1,9 +1,7 @@
 -- `writer::write_blocks` meets its contract: the blocks in front of k are written (`BlocksPut`). The measure is what is left.
 use native.Mathlib.Omega.{arith}
-use Prim.Native.Nat.{◌-◌, ◌≤◌}
 use native.Mathlib.Omega.{arith}
-use lib.ListN.{length}
-use Rattle.writer.proofs.Putting.{BlocksPut, blocks_begin, blocks_end_lem, blocks_lent, blocks_go}
+use Rattle.writer.proofs.Putting.{blocks_begin, blocks_end_lem, blocks_lent, blocks_go}
 use Rattle.writer.proofs.write_blocks.Goals as goal
 
 pub loop-k-init : goal.loop-k-init

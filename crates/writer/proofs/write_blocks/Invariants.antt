@@ -1,8 +1,6 @@
-use native.Mathlib.Omega.{arith}
 use Prim.Native.Nat.{◌-◌, ◌≤◌}
-use native.Mathlib.Omega.{arith}
 use lib.ListN.{length}
-use Rattle.writer.proofs.Putting.{BlocksPut, blocks_begin, blocks_end_lem, blocks_lent, blocks_go}
+use Rattle.writer.proofs.Putting.{BlocksPut}
 use Rattle.writer.proofs.write_blocks.Given as goal
 
 abbrev pub invariant-loop-k : goal.invariant-loop-k

@@ -1,10 +1,8 @@
 -- `verdict::rows::write_row` meets its contract: the last i symbols stand in the row and are packed (`RowTo`).
 use native.Mathlib.Omega.{arith}
-use Prim.Native.Nat.{◌-◌, ◌<◌}
 use mathlib.Core.Path.{sym, ◌∙◌}
 use lib.ListN.{length-set}
-use Rattle.grammar.specs.Words.{right_side}
-use Rattle.verdict.specs.Rows.{RowTo, row_begins, row_goes, row_ends, row_room}
+use Rattle.verdict.specs.Rows.{row_begins, row_goes, row_ends, row_room}
 use Rattle.verdict.proofs.rows.write_row.Goals as goal
 
 pub size_of-size-requires : goal.size_of-size-requires

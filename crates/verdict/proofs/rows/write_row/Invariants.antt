@@ -1,9 +1,6 @@
-use native.Mathlib.Omega.{arith}
-use Prim.Native.Nat.{◌-◌, ◌<◌}
-use mathlib.Core.Path.{sym, ◌∙◌}
-use lib.ListN.{length-set}
+use Prim.Native.Nat.{◌-◌}
 use Rattle.grammar.specs.Words.{right_side}
-use Rattle.verdict.specs.Rows.{RowTo, row_begins, row_goes, row_ends, row_room}
+use Rattle.verdict.specs.Rows.{RowTo}
 use Rattle.verdict.proofs.rows.write_row.Given as goal
 
 abbrev pub invariant-loop-i : goal.invariant-loop-i

@@ -1,10 +1,7 @@
 -- `verdict::rows::write_rows` meets its contract: the rules in front of p have their rows, links and right sides (`Filling`).
 use native.Mathlib.Omega.{arith}
-use Prim.Native.Nat.{◌-◌, ◌<◌}
 use mathlib.Core.Path.{sym, ◌∙◌}
-use mathlib.Core.Logic.{⊎_elim}
-use Rattle.grammar.specs.Words.{rule_count}
-use Rattle.verdict.specs.Filling.{Filling, filling_stays, filling_goes, filling_ends}
+use Rattle.verdict.specs.Filling.{filling_stays, filling_goes, filling_ends}
 use Rattle.verdict.proofs.rows.write_rows.Goals as goal
 use Rattle.verdict.proofs.rows.write_rows.Goals.{then-begins-gt0, else-begins-gt0}
 

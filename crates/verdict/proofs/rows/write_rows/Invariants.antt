@@ -1,9 +1,5 @@
-use native.Mathlib.Omega.{arith}
-use Prim.Native.Nat.{◌-◌, ◌<◌}
-use mathlib.Core.Path.{sym, ◌∙◌}
-use mathlib.Core.Logic.{⊎_elim}
-use Rattle.grammar.specs.Words.{rule_count}
-use Rattle.verdict.specs.Filling.{Filling, filling_stays, filling_goes, filling_ends}
+use Prim.Native.Nat.{◌-◌}
+use Rattle.verdict.specs.Filling.{Filling}
 use Rattle.verdict.proofs.rows.write_rows.Given as goal
 
 abbrev pub invariant-loop-p : goal.invariant-loop-p

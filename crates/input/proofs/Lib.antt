@@ -1,0 +1,2 @@
+-- Lemmas on what a read came to.
+pub mod Taken

@@ -1,0 +1,2 @@
+-- Lemmas on a text that is gone through.
+pub mod Going

@@ -1,0 +1,2 @@
+-- Lemmas on an input that is kept.
+pub mod Keeping
