@@ -1,4 +1,5 @@
 -- What the proofs of several functions cite.
 pub mod Passing
 pub mod Looking
+pub mod Standing
 pub mod Watching

@@ -9,7 +9,8 @@ use Rattle.grammar.specs.Pace.{Reports, pace_of}
 use Rattle.grammar.specs.Refusals.{given}
 use Rattle.grammar.specs.declared.Pace.{Pace}
 use Rattle.pace.specs.Watch.{Cursor, Stands, Few, Small, Lent, Ran, Finds, marks_of, passed_by}
-use Rattle.pace.specs.Standing.{Standing, standing_start, standing_next}
+use Rattle.pace.specs.Standing.{Standing}
+use Rattle.pace.proofs.Standing.{standing_start, standing_next}
 use Rattle.pace.specs.Ended.{kept_tells, spoils_tells, marks_apart, found_report}
 use Rattle.pace.specs.Few.{few_start, few_next, few_small}
 use Rattle.pace.specs.declared.Marks.{Marks}

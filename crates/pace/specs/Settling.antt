@@ -25,7 +25,6 @@ use Rattle.parser.specs.Asking.{asks_by}
 use Rattle.parser.specs.Runs.{parsing_of}
 use Rattle.parser.specs.declared.Asking.{Asking}
 use Rattle.parser.specs.declared.Parsing.{Parsing}
-use Rattle.parser.specs.declared.Parsing.TheVariants as Parsing
 
 -- The run of a parse that answered with counts, and what it left.
 pub record Whole (ws log ticks : List ℕ) (edit_room rule_room : ℕ) (counts : Counts) (x y : List ℕ) : Type 0 where

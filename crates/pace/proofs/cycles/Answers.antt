@@ -1,7 +1,6 @@
 -- `pace::cycles` meets its contract. The loop's invariant: the watch stands at the place (`Watching`).
-use Rattle.std.proofs.Common.{◌≡◌, ◌-◌, length, arith}
-use Rattle.pace.specs.Watch.{marks_of}
-use Rattle.pace.proofs.Watching.{Watching, watching_start, watching_small, watching_exact, watching_next, watching_end}
+use Rattle.std.proofs.Common.{arith}
+use Rattle.pace.proofs.Watching.{watching_start, watching_small, watching_exact, watching_next, watching_end}
 use Rattle.pace.proofs.cycles.Goals as goal
 
 pub marks_of-marks-requires : goal.marks_of-marks-requires

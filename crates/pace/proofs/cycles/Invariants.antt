@@ -1,6 +1,6 @@
-use Rattle.std.proofs.Common.{◌≡◌, ◌-◌, length, arith}
+use Rattle.std.proofs.Common.{◌≡◌, ◌-◌, length}
 use Rattle.pace.specs.Watch.{marks_of}
-use Rattle.pace.proofs.Watching.{Watching, watching_start, watching_small, watching_exact, watching_next, watching_end}
+use Rattle.pace.proofs.Watching.{Watching}
 use Rattle.pace.proofs.cycles.Given as goal
 
 abbrev pub invariant-loop-place : goal.invariant-loop-place

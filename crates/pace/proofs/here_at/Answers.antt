@@ -1,6 +1,6 @@
 -- `pace::here_at` meets its contract. The loop's invariant: the records passed are those of the place (`Looked`).
-use Rattle.std.proofs.Common.{◌-◌, sym, ◌∙◌, ⊎_elim, arith}
-use Rattle.pace.proofs.Looking.{Looked, looked_none, looked_delete, looked_other, looked_all}
+use Rattle.std.proofs.Common.{sym, ◌∙◌, arith}
+use Rattle.pace.proofs.Looking.{looked_none, looked_delete, looked_other, looked_all}
 use Rattle.pace.proofs.here_at.Goals as goal
 use Rattle.pace.proofs.here_at.Goals.{then-kind_of-eq-DELETE, else-kind_of-eq-DELETE}
 

@@ -1,5 +1,5 @@
-use Rattle.std.proofs.Common.{◌-◌, sym, ◌∙◌, ⊎_elim, arith}
-use Rattle.pace.proofs.Looking.{Looked, looked_none, looked_delete, looked_other, looked_all}
+use Rattle.std.proofs.Common.{◌-◌}
+use Rattle.pace.proofs.Looking.{Looked}
 use Rattle.pace.proofs.here_at.Given as goal
 
 abbrev pub invariant-loop-deleted : goal.invariant-loop-deleted

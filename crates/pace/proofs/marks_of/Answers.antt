@@ -1,5 +1,4 @@
 -- `pace::marks_of` meets its contract: each field is the word that it is named for.
-use Rattle.std.proofs.Common.{rules}
 use Rattle.pace.proofs.Watching.{marks_same}
 use Rattle.pace.proofs.marks_of.Goals as goal
 

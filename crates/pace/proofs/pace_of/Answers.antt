@@ -1,5 +1,4 @@
 -- `pace::pace_of` meets its contract: the sum is at most 2^53, so its conversion loses nothing; every u32 is an f64.
-use Rattle.std.proofs.Common.{rules}
 use Rattle.pace.proofs.Passing.{pace_idle, pace_mean}
 use Rattle.pace.specs.Exact.{lossless}
 use Rattle.pace.proofs.pace_of.Goals as goal

@@ -1,5 +1,5 @@
 -- `pace::report` meets its contract: the refusals of the parse, or the report of its moves.
-use Rattle.std.proofs.Common.{refl, rules}
+use Rattle.std.proofs.Common.{refl}
 use Rattle.pace.specs.Settling.{reports_refused, whole, whole_lent, whole_reports}
 use Rattle.pace.proofs.report.Goals as goal
 

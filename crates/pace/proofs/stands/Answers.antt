@@ -1,5 +1,5 @@
 -- `pace::stands` meets its contract: there is a record, or there is none.
-use Rattle.std.proofs.Common.{sym, ◌∙◌, arith, rules}
+use Rattle.std.proofs.Common.{sym, ◌∙◌, arith}
 use Rattle.pace.proofs.Passing.{equal_tells, no_tells}
 use Rattle.pace.proofs.stands.Goals as goal
 

@@ -1,5 +1,4 @@
 -- `pace::Watch::closed` meets its contract: the struct that it makes is `closed_by`'s of an open cycle.
-use Rattle.std.proofs.Common.{rules}
 use Rattle.pace.proofs.Passing.{closed_begun}
 use Rattle.pace.proofs.Watch.closed.Goals as goal
 
