@@ -20,26 +20,22 @@ pub const CHECK: usize = 510;
 
 const MODULUS: u32 = 65521;
 
-// The check over the first bytes of a block that begins at a byte. Those behind them add nothing where they are zero.
-pub fn check_of(bytes: &[u8], start: usize, size: usize) -> u16
-    requires size_bound { size ≤ 510 }
-    requires size_in_bounds { start + size ≤ length bytes.now }
-    ensures { result ≡ weighted_sum bytes.now start size % 65521 }
+// The check over the first bytes of a block. Those behind them add nothing where they are zero.
+pub fn check_of(bytes: &[u8]) -> u16
+    requires { length bytes.now ≤ 510 }
+    ensures { result ≡ weighted_sum bytes.now 0 (length bytes.now) % 65521 }
 {
-    (weighted_sum(bytes, start, size) % MODULUS) as u16
+    (weighted_sum(bytes) % MODULUS) as u16
 }
 
 // The sum over those bytes. It is at most 510 * 510 * 255, so a u32 holds it before the modulus.
-fn weighted_sum(bytes: &[u8], start: usize, size: usize) -> u32
-    requires size_bound { size ≤ 510 }
-    requires size_in_bounds { start + size ≤ length bytes.now }
-    ensures { result ≡ weighted_sum bytes.now start size }
+fn weighted_sum(bytes: &[u8]) -> u32
+    requires { length bytes.now ≤ 510 }
+    ensures { result ≡ weighted_sum bytes.now 0 (length bytes.now) }
 {
     let mut sum: u32 = 0;
-    let mut i = 0;
-    while i < size {
-        sum += weighted(i, bytes[start + i]);
-        i += 1;
+    for (i, &byte) in bytes.iter().enumerate() {
+        sum += weighted(i, byte);
     }
     sum
 }
@@ -50,5 +46,5 @@ fn weighted(i: usize, byte: u8) -> u32
     ensures value { result ≡ (i + 1) * byte }
     ensures upper_bound { result ≤ 130050 }
 {
-    (i as u32 + 1) * (byte as u32)
+    (i as u32 + 1) * u32::from(byte)
 }

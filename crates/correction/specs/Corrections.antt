@@ -1,6 +1,6 @@
 -- What `correction::correct` promises: the correction that 01 and request (ii) of 02 ask for, and its moves and records; or its records do
 -- not fit.
-use Rattle.std.specs.Prelude.{ℕ, ◌+◌, ◌*◌, ◌≤◌, ◌<◌, ◌^◌, ◌≡◌, List, ◌++◌, length, get_or, take}
+use Rattle.std.specs.Prelude.{ℕ, ◌+◌, ◌*◌, ◌≤◌, ◌<◌, ◌^◌, ◌≡◌, List, ◌++◌, length, get_or, take, Option, Some, None}
 use Rattle.grammar.specs.Words.{END}
 use Rattle.grammar.specs.Run.{Hit, Pop, Popped, deletes, pops}
 use Rattle.grammar.specs.Theory.Folds.{missing_of}
@@ -11,8 +11,6 @@ use Rattle.moves.specs.declared.Parser.{Parser}
 use Rattle.correction.specs.Tokens.{rest_of}
 use Rattle.correction.specs.Searching.{CanSearch}
 use Rattle.correction.specs.Records.{words_of}
-use Rattle.correction.specs.declared.Corrected.{Corrected}
-use Rattle.correction.specs.declared.Corrected.TheVariants.{On, Full}
 
 -- What a correction needs: what a search needs, END at the bottom of the stack, and room to count.
 pub record CanCorrect (S : Sized) (log masks prices stack : List ℕ) (p : Parser) : Type 0 where
@@ -51,7 +49,7 @@ pub record Made (S : Sized) (log stack before : List ℕ) (p : Parser) (after : 
       ≡ take (3 * p.records) before
       ++ words_of (deletes p.place (take c.deleted (rest_of log p.place)) ++ pops (p.place + c.deleted) c.becomes)
 
-unfoldable pub CorrectedOf : Sized → List ℕ → List ℕ → List ℕ → Parser → List ℕ → Corrected → Type 0
-CorrectedOf S log stack before p after (On q) = (c : Correction S log stack p) × Made S log stack before p after c q
-CorrectedOf S log stack before p after Full =
+unfoldable pub CorrectedOf : Sized → List ℕ → List ℕ → List ℕ → Parser → List ℕ → Option Parser → Type 0
+CorrectedOf S log stack before p after (Some q) = (c : Correction S log stack p) × Made S log stack before p after c q
+CorrectedOf S log stack before p after None =
     (c : Correction S log stack p) × (length before < 3 * (p.records + record_count c))

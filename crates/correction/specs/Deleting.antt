@@ -1,5 +1,5 @@
 -- The deletes of a correction: tokens that no correction can use.
-use Rattle.std.specs.Prelude.{ℕ, ◌+◌, ◌-◌, ◌*◌, ◌≤◌, ◌<◌, ◌≡◌, refl, true}
+use Rattle.std.specs.Prelude.{ℕ, ◌+◌, ◌-◌, ◌*◌, ◌≤◌, ◌<◌, ◌≡◌, refl, true, Option, None}
 use Rattle.std.proofs.Math.Path.{sym, ap, subst}
 use Rattle.std.proofs.Common.{◌∙◌, length-append, length-drop}
 use mathlib.Core.List.{List, [], ◌∷◌, ◌++◌, append_assoc, append-nil}
@@ -18,8 +18,6 @@ use Rattle.correction.specs.Tokens.{rest_of, rest_token, token_past}
 use Rattle.correction.specs.Searching.{SearchOf, paid, bounded, usable}
 use Rattle.correction.specs.Records.{Recorded, words_of, words_delete}
 use Rattle.correction.specs.Corrections.{CanCorrect}
-use Rattle.correction.specs.declared.Search.{Search}
-use Rattle.correction.specs.declared.Search.TheVariants.{Nothing}
 
 -- From p the first j tokens were deleted, since no correction can use one of them.
 pub record Deleted (S : Sized) (log stack before : List ℕ) (p : Parser) (q : Parser) (after : List ℕ) : Type 0 where
@@ -87,7 +85,7 @@ module _ {S : Sized} {log masks prices stack : List ℕ} {p : Parser} (can : Can
       (le_or_lt (length log) place)
 
   one_more : {before after last : List ℕ} {q u : Parser} → Deleted S log stack before p q after
-      → SearchOf S (pile stack q.height) (get_or log q.place 0) q.place Nothing → u ≡ deleted_by q
+      → SearchOf S (pile stack q.height) (get_or log q.place 0) None → u ≡ deleted_by q
       → Recorded after q.records 1 q.place (get_or log q.place 0) last → Deleted S log stack before p u last
   unfolding SearchOf
   one_more {before} {after} {last} {q} {u} d s e z =
@@ -132,11 +130,11 @@ module _ {S : Sized} {log masks prices stack : List ℕ} {p : Parser} (can : Can
             ∙ ap (λ t. take (3 * p.records) before ++ t) (sym (words_delete p.place j ρ within));
       })
 
-  pub deleted_more : {before after last : List ℕ} {q u : Parser} {t : ℕ} {found : Search} → Deleted S log stack before p q after
-      → SearchOf S (pile stack q.height) (get_or log q.place 0) q.place found → found ≡ Nothing → u ≡ deleted_by q
+  pub deleted_more : {before after last : List ℕ} {q u : Parser} {t : ℕ} {found : Option ℕ} → Deleted S log stack before p q after
+      → SearchOf S (pile stack q.height) (get_or log q.place 0) found → found ≡ None → u ≡ deleted_by q
       → t ≡ get_or log q.place 0 → Recorded after q.records 1 q.place t last → Deleted S log stack before p u last
   deleted_more {after = after} {last = last} {q = q} {t = t} d s f e g z =
       one_more d
-      (subst (λ x. SearchOf S (pile stack q.height) (get_or log q.place 0) q.place x) f s)
+      (subst (λ x. SearchOf S (pile stack q.height) (get_or log q.place 0) x) f s)
       e
       (subst (λ x. Recorded after q.records 1 q.place x last) g z)

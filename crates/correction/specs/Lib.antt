@@ -5,3 +5,4 @@ pub mod Records
 pub mod Popping
 pub mod Corrections
 pub mod Deleting
+pub mod Downwards

@@ -17,6 +17,7 @@ use Rattle.moves.specs.Pile.{pile, pile_length, pile_at}
 use Rattle.moves.specs.States.{CanCount, dropped_by, inserted_by}
 use Rattle.moves.specs.Tests.{empty_by}
 use Rattle.moves.specs.declared.Parser.{Parser}
+use Rattle.correction.specs.Downwards.{Below}
 use Rattle.correction.specs.Symbols.{Known, empty_null, null_empty}
 use Rattle.correction.specs.Records.{CanRecord, Recorded, words_of, words_moves}
 
@@ -120,12 +121,12 @@ module _ (masks σ : List ℕ) (k : ℕ) (l : k < length σ) where
 
 -- ---- The contract
 
-pub record CanPop (masks stack : List ℕ) (p : Parser) (r i : ℕ) : Type 0 where
+pub record CanPop (masks stack : List ℕ) (p : Parser) (i : ℕ) : Type 0 where
   pub table : 65 ≤ length masks
   pub symbols : (k : ℕ) → k < p.height → get_or stack k 0 < 128
   pub cells : p.height ≤ length stack
   pub within : i ≤ p.height
-  pub place_fits : r < 65536
+  pub place_fits : p.place < 65536
   pub room : p.moves + i < 2 ^ 64
   pub count : 3 * (p.records + i) + 3 < 2 ^ 64
   pub counts : CanCount p
@@ -143,10 +144,10 @@ pub record PoppedOf (masks stack before : List ℕ) (p : Parser) (r k : ℕ) (q 
       → take (3 * q.records) after ≡ take (3 * p.records) before ++ pop_words masks (pile stack p.height) r k
 
 -- What a pop needs of the state that k pops have led to.
-module _ {masks stack before : List ℕ} {p q : Parser} {r i k : ℕ} {after : List ℕ} (can : CanPop masks stack p r i) (l : k < i)
-    (w : PoppedOf masks stack before p r k q after) where
-  pub pop_symbol : get_or stack (q.height - 1) 0 < 128
-  pop_symbol = can.symbols (q.height - 1) (omega (arith, w.height, can.within))
+module _ {masks stack before : List ℕ} {p q : Parser} {i k : ℕ} {after : List ℕ} (can : CanPop masks stack p i) (l : k < i)
+    (w : PoppedOf masks stack before p p.place k q after) where
+  pub pop_symbol : {x : ℕ} → Below stack p.height k x → x < 128
+  pop_symbol b = omega (arith, b.is, can.symbols (p.height - 1 - k) (omega (arith, b.within)))
 
   pub pop_counts : CanCount q × (1 ≤ q.height)
   pop_counts = (
@@ -160,7 +161,7 @@ module _ {masks stack before : List ℕ} {p q : Parser} {r i k : ℕ} {after : L
     omega (arith, w.height, can.within),
   )
 
-  pub pop_record : CanRecord q.records r
+  pub pop_record : CanRecord q.records p.place
   pop_record = record { count = omega (arith, w.records, w.few, can.count); place_fits = can.place_fits }
 
 pub popped_none : (masks stack before : List ℕ) (p : Parser) (r : ℕ) → PoppedOf masks stack before p r 0 p before
@@ -177,18 +178,18 @@ popped_none masks stack before p r =
       front = λ h. sym (append-nil (take (3 * p.records) before));
     }
 
-module _ {masks stack before : List ℕ} {p q : Parser} {r k : ℕ} {after : List ℕ} (l : k < p.height)
+module _ {masks stack before : List ℕ} {p q : Parser} {r k : ℕ} {after : List ℕ} {x : ℕ} (here : Below stack p.height k x)
     (w : PoppedOf masks stack before p r k q after) where
-  -- The symbol on top is the next of the pile.
-  top : get_or stack (q.height - 1) 0 ≡ get_or (pile stack p.height) k 0
+  -- The symbol that comes is the next of the pile.
+  top : x ≡ get_or (pile stack p.height) k 0
   top =
-      let c : q.height - 1 ≡ p.height - (k + 1) = omega (arith, w.height) in
-      ap (λ j. get_or stack j 0) c ∙ sym (pile_at stack p.height k l)
+      let c : p.height - 1 - k ≡ p.height - (k + 1) = omega arith in
+      here.is ∙ ap (λ j. get_or stack j 0) c ∙ sym (pile_at stack p.height k here.within)
 
   inside : k < length (pile stack p.height)
-  inside = omega (arith, pile_length stack p.height)
+  inside = omega (arith, pile_length stack p.height, here.within)
 
-  pub popped_drop : {u : Parser} → u ≡ dropped_by q → empty_by masks (get_or stack (q.height - 1) 0) ≡ true
+  pub popped_drop : {u : Parser} → u ≡ dropped_by q → empty_by masks x ≡ true
       → PoppedOf masks stack before p r (k + 1) u after
   popped_drop e b =
       let σ = pile stack p.height in
@@ -197,7 +198,7 @@ module _ {masks stack before : List ℕ} {p q : Parser} {r k : ℕ} {after : Lis
       subst (λ v. PoppedOf masks stack before p r (k + 1) v after) (sym e)
       (record {
         place = w.place;
-        height = omega (arith, w.height);
+        height = omega (arith, w.height, here.within);
         moves = omega (arith, w.moves);
         records = omega (arith, w.records);
         few = omega (arith, w.few);
@@ -206,8 +207,8 @@ module _ {masks stack before : List ℕ} {p q : Parser} {r k : ℕ} {after : Lis
         front = λ h. w.front h ∙ ap (λ t. take (3 * p.records) before ++ t) (sym (drop_words masks σ k inside r empty));
       })
 
-  pub popped_insert : {u : Parser} {last : List ℕ} → u ≡ inserted_by q → empty_by masks (get_or stack (q.height - 1) 0) ≡ false
-      → Recorded after q.records 2 r (get_or stack (q.height - 1) 0) last → PoppedOf masks stack before p r (k + 1) u last
+  pub popped_insert : {u : Parser} {last : List ℕ} → u ≡ inserted_by q → empty_by masks x ≡ false
+      → Recorded after q.records 2 r x last → PoppedOf masks stack before p r (k + 1) u last
   popped_insert {last = last} e b z =
       let σ = pile stack p.height in
       let missing : empty_by masks (get_or σ k 0) ≡ false = ap (empty_by masks) (sym top) ∙ b in
@@ -216,7 +217,7 @@ module _ {masks stack before : List ℕ} {p q : Parser} {r k : ℕ} {after : Lis
       subst (λ v. PoppedOf masks stack before p r (k + 1) v last) (sym e)
       (record {
         place = w.place;
-        height = omega (arith, w.height);
+        height = omega (arith, w.height, here.within);
         moves = omega (arith, w.moves);
         records = omega (arith, w.records);
         few = omega (arith, w.few);
@@ -224,18 +225,13 @@ module _ {masks stack before : List ℕ} {p q : Parser} {r k : ℕ} {after : Lis
         size = z.size ∙ w.size;
         front = λ h.
             z.front (omega (arith, w.size))
-            ∙ ap (λ t. t ++ (2 ∷ r ∷ get_or stack (q.height - 1) 0 ∷ [])) (w.front (omega arith))
-            ∙ append_assoc (take (3 * p.records) before) words (2 ∷ r ∷ get_or stack (q.height - 1) 0 ∷ [])
-            ∙ ap (λ x. take (3 * p.records) before ++ (words ++ (2 ∷ r ∷ x ∷ []))) top
+            ∙ ap (λ t. t ++ (2 ∷ r ∷ x ∷ [])) (w.front (omega arith))
+            ∙ append_assoc (take (3 * p.records) before) words (2 ∷ r ∷ x ∷ [])
+            ∙ ap (λ y. take (3 * p.records) before ++ (words ++ (2 ∷ r ∷ y ∷ []))) top
             ∙ ap (λ t. take (3 * p.records) before ++ t) (sym (insert_words masks σ k inside r missing));
       })
 
--- So is it of the same buffer.
-pub popped_as : {masks stack before after last : List ℕ} {p q : Parser} {r k : ℕ} → last ≡ after → PoppedOf masks stack before p r k q after
-    → PoppedOf masks stack before p r k q last
-popped_as {masks} {stack} {before} {p = p} {q = q} {r = r} {k = k} e w =
-    subst (λ b. PoppedOf masks stack before p r k q b) (sym e) w
-
+-- So many were popped, however they are counted.
 pub popped_all : {masks stack before after : List ℕ} {p q : Parser} {r k i : ℕ} → k ≡ i → PoppedOf masks stack before p r k q after
     → PoppedOf masks stack before p r i q after
 popped_all {masks} {stack} {before} {after} {p} {q} {r} e w = subst (λ n. PoppedOf masks stack before p r n q after) e w

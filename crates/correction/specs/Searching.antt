@@ -1,5 +1,5 @@
 -- One walk down the stack decides a token: whether a correction can use it, and by popping how many symbols.
-use Rattle.std.specs.Prelude.{ℕ, zero, suc, ◌+◌, ◌-◌, ◌*◌, ◌≤◌, ◌<◌, ◌≡◌, refl, Bool, true, false, List, [], ◌∷◌, length, get_or, take}
+use Rattle.std.specs.Prelude.{ℕ, zero, suc, ◌+◌, ◌-◌, ◌*◌, ◌≤◌, ◌<◌, ◌≡◌, refl, Bool, true, false, List, [], ◌∷◌, length, get_or, take, Option, Some, None}
 use Rattle.std.proofs.Common.{sym, ap, ◌∙◌, subst, true≢false, arith}
 use Rattle.std.proofs.Math.Logic.{⊎_elim}
 use Rattle.grammar.specs.Derivation.{All}
@@ -13,8 +13,6 @@ use Rattle.moves.specs.Tests.{begins_by, le_or_lt}
 use Rattle.moves.specs.Pile.{pile, pile_length, pile_at}
 use Rattle.correction.specs.Tokens.{token_high}
 use Rattle.correction.specs.Symbols.{Known, begins_first, first_begins, symbol_small, pile_cell}
-use Rattle.correction.specs.declared.Search.{Search}
-use Rattle.correction.specs.declared.Search.TheVariants.{Hit, Nothing}
 
 -- ---- The contract
 
@@ -30,10 +28,10 @@ pub record Used (S : Sized) (σ : List ℕ) (t i : ℕ) : Type 0 where
   pub plausible : Plausible S.grammar σ t i
   pub least : (k : ℕ) → k < i → Plausible S.grammar σ t k → ⊥
 
--- The answer for token t at place r.
-unfoldable pub SearchOf : Sized → List ℕ → ℕ → ℕ → Search → Type 0
-SearchOf S σ t r (Hit q i) = (q ≡ r) × Used S σ t i
-SearchOf S σ t r Nothing = (k : ℕ) → Plausible S.grammar σ t k → ⊥
+-- The answer for token t: how many symbols are popped, or nothing.
+unfoldable pub SearchOf : Sized → List ℕ → ℕ → Option ℕ → Type 0
+SearchOf S σ t (Some i) = Used S σ t i
+SearchOf S σ t None = (k : ℕ) → Plausible S.grammar σ t k → ⊥
 
 -- ---- Costs of what stands above
 
@@ -140,14 +138,14 @@ module _ {S : Sized} {log masks prices : List ℕ} (known : Known S log masks pr
             (le_or_lt i k);
       }
 
-  pub walked_dear : (r i cost : ℕ) → limit_by prices t ≤ cost → Walked S prices σ t i cost → SearchOf S σ t r Nothing
+  pub walked_dear : (i cost : ℕ) → limit_by prices t ≤ cost → Walked S prices σ t i cost → SearchOf S σ t None
   unfolding SearchOf
-  walked_dear r i cost m w =
+  walked_dear i cost m w =
       λ k p. ⊎_elim (λ l. too_dear i k (omega (arith, w.pays)) l p) (λ l. w.none k l p) (le_or_lt i k)
 
-  pub walked_all : (r i cost : ℕ) → length σ ≤ i → Walked S prices σ t i cost → SearchOf S σ t r Nothing
+  pub walked_all : (i cost : ℕ) → length σ ≤ i → Walked S prices σ t i cost → SearchOf S σ t None
   unfolding SearchOf
-  walked_all r i cost l w = λ k p. w.none k (omega (arith, p.within)) p
+  walked_all i cost l w = λ k p. w.none k (omega (arith, p.within)) p
 
 -- ---- The same, at the cells of the buffer, for the token at place r
 
@@ -201,16 +199,16 @@ module _ {S : Sized} {log masks prices stack : List ℕ} {height : ℕ} (can : C
       known_limit : (X : ℕ) → SymbolOf S X → get_or prices X 0 ≤ 60000
       known_limit = can.known.shared.cost_limit
 
-  pub here : (s : Search) → SearchOf S (pile stack height) t r s → SearchOf S (pile stack height) (get_or log r 0) r s
-  here s h = subst (λ u. SearchOf S (pile stack height) u r s) at-r h
+  pub here : (s : Option ℕ) → SearchOf S (pile stack height) t s → SearchOf S (pile stack height) (get_or log r 0) s
+  here s h = subst (λ u. SearchOf S (pile stack height) u s) at-r h
 
   pub seek_dear : (i cost l : ℕ) → l ≡ limit_by prices t → l ≤ cost → Walked S prices (pile stack height) t i cost
-      → SearchOf S (pile stack height) (get_or log r 0) r Nothing
+      → SearchOf S (pile stack height) (get_or log r 0) None
   seek_dear i cost l q k w =
-      here Nothing (walked_dear can.known (pile stack height) can.symbols short t token_low r i cost (omega (arith, q, k)) w)
+      here None (walked_dear can.known (pile stack height) can.symbols short t token_low i cost (omega (arith, q, k)) w)
 
   pub seek_all : (i cost : ℕ) → height ≤ i → Walked S prices (pile stack height) t i cost
-      → SearchOf S (pile stack height) (get_or log r 0) r Nothing
+      → SearchOf S (pile stack height) (get_or log r 0) None
   seek_all i cost l w =
-      here Nothing
-      (walked_all can.known (pile stack height) can.symbols short t token_low r i cost (omega (arith, pile_length stack height)) w)
+      here None
+      (walked_all can.known (pile stack height) can.symbols short t token_low i cost (omega (arith, pile_length stack height)) w)

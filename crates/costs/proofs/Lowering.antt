@@ -39,6 +39,10 @@ member_or x (y ∷ α) =
     (λ n. ⊎_elim (λ m. inl (Memᴰ.tail m)) (λ f. inr (neither n f)) (member_or x α))
     (same_or x y)
 
+-- The left side by a number that is the same.
+pub left_at : {ws : List ℕ} {p j k : ℕ} → j ≡ k → LeftOf ws p k → LeftOf ws p j
+left_at {ws} {p} e left = subst (LeftOf ws p) (sym e) left
+
 module _
     (ws l : List ℕ)
     (s : Shaped ws)

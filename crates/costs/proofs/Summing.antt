@@ -1,41 +1,36 @@
--- The sum over a right side, from its end; and sums of which each member is no more than another's.
-use Prim.Native.Nat.{ℕ, ◌+◌, ◌-◌, ◌*◌, ◌≤◌, ◌<◌}
-use mathlib.Core.Path.{◌≡◌, refl, sym, ap, subst, ◌∙◌}
-use mathlib.Core.List.{List, [], ◌∷◌, Memᴰ}
+-- The sum over a right side; and sums of which each member is no more than another's.
+use Prim.Native.Nat.{ℕ, ◌+◌, ◌*◌, ◌≤◌, ◌<◌}
+use mathlib.Core.Path.{◌≡◌, refl, ap, subst, ◌∙◌}
+use mathlib.Core.List.{List, [], ◌∷◌, ◌++◌, Memᴰ}
 use native.Mathlib.Omega.{arith}
-use lib.ListN.{length, drop}
-use Rattle.grammar.specs.Words.{right_side}
+use lib.ListN.{length, take, get_or}
+use Rattle.std.proofs.lemmas.List.{take_more, take_all}
 use Rattle.grammar.specs.Theory.Closed.{total}
-use Rattle.shape.specs.Accessors.{SizeOf, SymbolAt, right_none, right_from}
 
--- What the symbols from i on cost together, with room for those in front of them.
-pub record Summed (ws : List ℕ) (p : ℕ) (cost : ℕ → ℕ) (i sum : ℕ) : Type 0 where
-  pub inside : i ≤ length (right_side ws p)
-  pub is : sum ≡ total cost (drop i (right_side ws p))
-  pub room : sum + 1000000 * i ≤ 8000000
+-- What the first i symbols cost together.
+pub record Summed (cost : ℕ → ℕ) (α : List ℕ) (i sum : ℕ) : Type 0 where
+  pub is : sum ≡ total cost (take i α)
+  pub most : sum ≤ 1000000 * i
 
-pub sum_none : {ws : List ℕ} {p n : ℕ} (cost : ℕ → ℕ) → SizeOf ws p n → Summed ws p cost n 0
+pub sum_none : (cost : ℕ → ℕ) (α : List ℕ) → Summed cost α 0 0
 unfolding total
-sum_none cost size =
+sum_none cost α = record { is = refl; most = omega arith }
+
+total_append : (cost : ℕ → ℕ) (α : List ℕ) (X : ℕ) → total cost (α ++ (X ∷ [])) ≡ total cost α + cost X
+unfolding total
+total_append cost [] X = omega arith
+total_append cost (Y ∷ α) X = omega (arith, total_append cost α X)
+
+pub sum_more : {cost : ℕ → ℕ} (α : List ℕ) {i sum : ℕ} → Summed cost α i sum → i < length α → cost (get_or α i 0) ≤ 1000000
+    → Summed cost α (i + 1) (sum + cost (get_or α i 0))
+sum_more {cost} α {i} s below limit =
     record {
-      inside = omega (arith, size.is);
-      is = sym (ap (total cost) (right_none size));
-      room = omega (arith, size.small);
+      is = omega (arith, s.is, ap (total cost) (take_more α i 0 below), total_append cost (take i α) (get_or α i 0));
+      most = omega (arith, s.most);
     }
 
-pub sum_more : {ws : List ℕ} {p i X sum : ℕ} {cost : ℕ → ℕ} → Summed ws p cost i sum → 0 < i → SymbolAt ws p (i - 1) X → cost X ≤ 1000000
-    → Summed ws p cost (i - 1) (sum + cost X)
-unfolding total
-sum_more {cost = cost} s some at limit =
-    record {
-      inside = omega (arith, s.inside);
-      is = omega (arith, s.is, ap (total cost) (right_from some s.inside at));
-      room = omega (arith, s.room);
-    }
-
-pub sum_all : {ws : List ℕ} {p i sum : ℕ} {cost : ℕ → ℕ} → Summed ws p cost i sum → i ≤ 0 → sum ≡ total cost (right_side ws p)
-sum_all {ws} {p} {i} {cost = cost} s none =
-    let at : i ≡ 0 = omega arith in s.is ∙ ap (λ k. total cost (drop k (right_side ws p))) at
+pub sum_all : {cost : ℕ → ℕ} (α : List ℕ) {i sum : ℕ} → Summed cost α i sum → length α ≤ i → sum ≡ total cost α
+sum_all {cost} α {i} s all = s.is ∙ ap (total cost) (take_all i α all)
 
 -- ---- Sums side by side
 

@@ -1,6 +1,6 @@
 -- What costs nothing can be empty: every terminal of a right side costs at least 1.
 --     empty_is, empty_costs   by the table
---     mask_begins, mask_goes, mask_ends   the mask, nonterminal by nonterminal
+--     mask_begins, mask_free, mask_paid, mask_ends   the mask, nonterminal by nonterminal
 use Rattle.std.specs.Prelude.{ℕ, ◌+◌, ◌≤◌, ◌<◌, ◌≡◌, true, ◌↔◌, get_or}
 use Rattle.std.proofs.Math.Path.{refl}
 use Rattle.std.proofs.Common.{sym, subst, arith}
@@ -60,49 +60,38 @@ module _ {ws l : List ℕ} (s : Shaped ws) (c : Costed ws l) where
 pub record Emptied (ws : List ℕ) (k mask : ℕ) : Type 0 where
   pub exact : (j : ℕ) → (member mask j ≡ true) ↔ ((j < k) × CanBeEmpty (RuleOf ws) ((64 + j) ∷ []))
 
--- Nonterminal k is added where it costs nothing.
-pub record Freed (mask k cost r : ℕ) : Type 0 where
-  pub free : cost ≡ 0 → r ≡ with mask k
-  pub paid : 0 < cost → r ≡ mask
-
 pub mask_begins : (ws : List ℕ) → Emptied ws 0 0
 mask_begins ws = record { exact = λ j. (λ m. absurd (empty_none j m), λ u. absurd (omega (arith, u.0))) }
 
-pub mask_goes : {ws l : List ℕ} {k mask more : ℕ} → Shaped ws → Costed ws l → k < nonterminal_count ws → Emptied ws k mask
-    → Freed mask k (get_or l (64 + k) 0) more → Emptied ws (k + 1) more
-mask_goes {ws} {l} {k} {mask} {more} s c h f g =
-    ⊎_elim (λ none. free (omega arith)) paid (below_or (get_or l (64 + k) 0) 1)
-  where
-    free : get_or l (64 + k) 0 ≡ 0 → Emptied ws (k + 1) more
-    free e =
-        let is = g.free e in
-        record {
-          exact = λ j. (
-            λ m.
-                ⊎_elim (λ q. (omega arith, subst (λ n. CanBeEmpty (RuleOf ws) ((64 + n) ∷ [])) q (empty_is s c k h e)))
-                (λ was. let u = (f.exact j).0 was in (omega (arith, u.0), u.1))
-                (with_cases mask k j (subst (λ n. member n j ≡ true) is m)),
-            λ u.
-                subst (λ n. member n j ≡ true) (sym is)
-                (⊎_elim (λ before. with_keeps mask k j ((f.exact j).1 (before, u.1)))
-                (λ q. subst (λ n. member (with mask k) n ≡ true) (sym q) (with_same mask k)) (below_or_at j k u.0)),
-          );
-        }
+module _ {ws l : List ℕ} {k mask : ℕ} (s : Shaped ws) (c : Costed ws l) (h : k < nonterminal_count ws) (f : Emptied ws k mask) where
+  -- A nonterminal that costs nothing is added,
+  pub mask_free : get_or l (64 + k) 0 ≡ 0 → Emptied ws (k + 1) (with mask k)
+  mask_free e =
+      record {
+        exact = λ j. (
+          λ m.
+              ⊎_elim (λ q. (omega arith, subst (λ n. CanBeEmpty (RuleOf ws) ((64 + n) ∷ [])) q (empty_is s c k h e)))
+              (λ was. let u = (f.exact j).0 was in (omega (arith, u.0), u.1))
+              (with_cases mask k j m),
+          λ u.
+              (⊎_elim (λ before. with_keeps mask k j ((f.exact j).1 (before, u.1)))
+              (λ q. subst (λ n. member (with mask k) n ≡ true) (sym q) (with_same mask k)) (below_or_at j k u.0)),
+        );
+      }
 
-    paid : 1 ≤ get_or l (64 + k) 0 → Emptied ws (k + 1) more
-    paid some =
-        let is = g.paid some in
-        record {
-          exact = λ j. (
-            λ m. let u = (f.exact j).0 (subst (λ n. member n j ≡ true) is m) in (omega (arith, u.0), u.1),
-            λ u.
-                subst (λ n. member n j ≡ true) (sym is)
-                (⊎_elim (λ before. (f.exact j).1 (before, u.1))
-                (λ q.
-                absurd (omega (arith, empty_costs s c k h (subst (λ n. CanBeEmpty (RuleOf ws) ((64 + n) ∷ [])) q u.1))))
-                (below_or_at j k u.0)),
-          );
-        }
+  -- and no other.
+  pub mask_paid : 0 < get_or l (64 + k) 0 → Emptied ws (k + 1) mask
+  mask_paid some =
+      record {
+        exact = λ j. (
+          λ m. let u = (f.exact j).0 m in (omega (arith, u.0), u.1),
+          λ u.
+              (⊎_elim (λ before. (f.exact j).1 (before, u.1))
+              (λ q.
+              absurd (omega (arith, empty_costs s c k h (subst (λ n. CanBeEmpty (RuleOf ws) ((64 + n) ∷ [])) q u.1))))
+              (below_or_at j k u.0)),
+        );
+      }
 
 pub mask_ends : {ws : List ℕ} {k mask : ℕ} → Emptied ws k mask → k ≡ nonterminal_count ws
     → NullMask (RuleOf ws) (nonterminal_count ws) mask

@@ -16,13 +16,11 @@ pub record Limited (l : List ℕ) : Type 0 where
   pub size : length l ≡ 192
   pub limit : (X : ℕ) → entry l X ≤ 1000000
 
--- The terminals have their costs, the first k nonterminals none, and nothing else stands there.
-pub record Begun (ws : List ℕ) (k : ℕ) (l : List ℕ) : Type 0 where
+-- The terminals have their costs, and nothing else stands there.
+pub record Begun (ws l : List ℕ) : Type 0 where
   pub size : length l ≡ 192
   pub terminal : (t : ℕ) → t < terminal_count ws → entry l t ≡ insert_cost ws t
-  pub blank : (t : ℕ) → terminal_count ws ≤ t → t < 64 → entry l t ≡ 0
-  pub unknown : (j : ℕ) → j < k → entry l (64 + j) ≡ 1000000
-  pub beyond : (X : ℕ) → 64 + k ≤ X → entry l X ≡ 0
+  pub beyond : (X : ℕ) → terminal_count ws ≤ X → entry l X ≡ 0
 
 -- Nonterminal k has rule p, whose right side costs no more than k does.
 pub record Ruled (ws l : List ℕ) (k p : ℕ) : Type 0 where

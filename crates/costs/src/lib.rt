@@ -3,21 +3,21 @@
 // nonterminals whose cost fell, and only the rules that mention one of them are visited again. What a nonterminal is made of mostly has
 // higher numbers, so the greatest is taken first. The sum of the costs falls with each that goes on the list, and is the measure. The lowest
 // of the rules that reach a cost is noted along with it.
+// Kept: the table is one list, since a cost is looked up by the symbol's number, terminal or not, in one step, and the parser reads it so.
 #![tactic(auto)]
 
-ghost use Rattle.std.specs.Prelude.{◌≡◌, ◌+◌, ◌*◌, ◌<◌, true};
-ghost use Rattle.sets.specs.Bits.{member};
+ghost use Rattle.std.specs.Prelude.{◌≡◌, ◌<◌};
 ghost use Rattle.grammar.specs.Grammar.{RuleOf};
 ghost use Rattle.grammar.specs.Words.{Shaped, nonterminal_count, right_side, rule_count};
 ghost use Rattle.grammar.specs.Theory.Masks.{NullMask};
 ghost use Rattle.grammar.specs.Theory.Closed.{total};
-ghost use Rattle.shape.specs.Ready.{Ready};
 ghost use Rattle.base.specs.Blank.{Blank};
 ghost use Rattle.mentions.specs.Mentions.{InRow, MentionsOf};
 ghost use Rattle.costs.specs.Costed.{Costed};
-ghost use Rattle.costs.specs.Empty.{Freed};
 ghost use Rattle.costs.specs.Held.{Begun, Fresh, Held, Limited, entry};
 ghost use Rattle.costs.specs.Visiting.{Capped, Chosen, Fell, InWord, Known, Revised, RulesOf, Spans};
+
+use shape::rules::Rules;
 
 // What stands for a cost above 60,000.
 const OVER: u32 = 60001;
@@ -27,18 +27,19 @@ const NONE: u32 = 1000000;
 
 // Fills the table, which holds nothing. A cost of at most 60,000 is exact, and so is its rule; one of 60,001 says that the nonterminal
 // derives terminal strings, and none of cost 60,000 or less: refusal 8; one of 1,000,000 that it derives none: refusal 7.
-pub fn costs(words: &[u16], places: &[u16], mentions: &[u64], table: &mut [u32])
-    requires ready { Ready words.now places.now }
-    requires mentions_of { MentionsOf words.now mentions.now }
+pub fn costs(rules: &Rules<'_>, mentions: &[u64], table: &mut [u32])
+    requires mentions_of { MentionsOf rules.now mentions.now }
     requires blank { Blank 192 table.old }
-    ensures { Costed words.now table.new }
+    ensures { Costed rules.now table.new }
 {
-    begin(words, table);
-    let size = (shape::rule_count(words) + 63) / 64;
-    let mut list = visit_row(words, places, mentions, mentions::NOTHING, size, table);
+    begin_terminals(rules, table);
+    begin_nonterminals(rules, table);
+    let size = (rules.rule_count() + 63) / 64;
+    // Kept: a worklist and no count: a visit puts nonterminals back on it.
+    let mut list = visit_row(rules, mentions, mentions::NOTHING, size, table);
     while 0 < list {
         let k = sets::greatest(list);
-        let fallen = visit_row(words, places, mentions, k as usize, size, table);
+        let fallen = visit_row(rules, mentions, usize::from(k), size, table);
         list = sets::union(sets::without(list, k), fallen);
     }
 }
@@ -49,108 +50,70 @@ pub fn empties(words: &[u16], table: &[u32]) -> u64
     requires costed { Costed words.now table.now }
     ensures { NullMask (RuleOf words.now) (nonterminal_count words.now) result }
 {
-    let count = shape::nonterminal_count(words);
     let mut mask = 0;
-    let mut k = 0;
-    while k < count {
-        mask = freed(mask, k as u16, table[64 + k]);
-        k += 1;
+    for k in 0..shape::nonterminal_count(words) {
+        let free = table[64 + k] == 0;
+        if free {
+            mask = sets::with(mask, k as u16);
+        }
     }
     mask
 }
 
-// The mask, and k where it costs nothing.
-fn freed(mask: u64, k: u16, cost: u32) -> u64
-    requires { k < 64 }
-    ensures { Freed mask k cost result }
-{
-    if cost == 0 {
-        return sets::with(mask, k);
-    }
-    mask
-}
-
-// ---- The first costs
-
-// All of them, and no rule.
-fn begin(words: &[u16], table: &mut [u32])
-    requires shaped { Shaped words.now }
-    requires blank { Blank 192 table.old }
-    ensures { Fresh words.now table.new }
-{
-    begin_terminals(words, table);
-    begin_nonterminals(words, table);
-}
+// ---- The first costs, and no rule
 
 // A terminal's insert cost.
-fn begin_terminals(words: &[u16], table: &mut [u32])
-    requires shaped { Shaped words.now }
-    requires blank { Blank 192 table.old }
-    ensures { Begun words.now 0 table.new }
+fn begin_terminals(rules: &Rules<'_>, table: &mut [u32])
+    requires { Blank 192 table.old }
+    ensures { Begun rules.now table.new }
 {
-    let count = shape::terminal_count(words);
-    let from = shape::terminals_at(words);
-    let mut t = 0;
-    while t < count {
-        table[t] = base::long(shape::insert_cost(words, from, t));
-        t += 1;
+    let terminals = rules.terminals();
+    for t in 0..rules.terminal_count() {
+        table[t] = u32::from(terminals[2 * t]);
     }
 }
 
 // None for a nonterminal.
-fn begin_nonterminals(words: &[u16], table: &mut [u32])
-    requires shaped { Shaped words.now }
-    requires begun { Begun words.now 0 table.old }
-    ensures { Fresh words.now table.new }
+fn begin_nonterminals(rules: &Rules<'_>, table: &mut [u32])
+    requires { Begun rules.now table.old }
+    ensures { Fresh rules.now table.new }
 {
-    let count = shape::nonterminal_count(words);
-    let mut k = 0;
-    while k < count {
-        table[64 + k] = NONE;
-        k += 1;
-    }
+    let count = rules.nonterminal_count();
+    table[64..64 + count].fill(NONE);
 }
 
 // ---- The visits
 
 // Visits the rules of a row, in as many words as rules take, and gives the nonterminals whose cost fell.
-fn visit_row(
-    words: &[u16],
-    places: &[u16],
-    mentions: &[u64],
-    row: usize,
-    size: usize,
-    table: &mut [u32],
-) -> u64
-    requires ready { Ready words.now places.now }
-    requires mentions_of { MentionsOf words.now mentions.now }
+fn visit_row(rules: &Rules<'_>, mentions: &[u64], row: usize, size: usize, table: &mut [u32]) -> u64
+    requires shaped { Shaped rules.now }
+    requires mentions_of { MentionsOf rules.now mentions.now }
     requires row_bound { row < 65 }
-    requires spans { Spans words.now mentions.now size }
-    requires held { Held words.now table.old }
-    ensures { Revised words.now (InRow mentions.now row) table.old table.new result }
+    requires spans { Spans rules.now mentions.now size }
+    requires held { Held rules.now table.old }
+    ensures { Revised rules.now (InRow mentions.now row) table.old table.new result }
 {
     let mut fallen = 0;
-    let mut w = 0;
-    while w < size {
-        let more = visit_word(words, places, mentions[mentions::ROWS * w + row], w, table);
+    for w in 0..size {
+        let more = visit_word(rules, mentions[mentions::ROWS * w + row], w, table);
         fallen = sets::union(fallen, more);
-        w += 1;
     }
     fallen
 }
 
 // Visits the rules of word w of a row.
-fn visit_word(words: &[u16], places: &[u16], rules: u64, w: usize, table: &mut [u32]) -> u64
-    requires ready { Ready words.now places.now }
-    requires rules_of { RulesOf words.now rules w }
-    requires held { Held words.now table.old }
-    ensures { Revised words.now (InWord rules w) table.old table.new result }
+fn visit_word(rules: &Rules<'_>, word: u64, w: usize, table: &mut [u32]) -> u64
+    requires shaped { Shaped rules.now }
+    requires rules_of { RulesOf rules.now word w }
+    requires held { Held rules.now table.old }
+    ensures { Revised rules.now (InWord word w) table.old table.new result }
 {
-    let mut rest = rules;
+    // Kept: an iterator over the members of a word would be no plainer, since its laws would stand beside this loop's.
+    let mut rest = word;
     let mut fallen = 0;
     while 0 < rest {
         let i = sets::least(rest);
-        let more = visit(words, places, 64 * w + i as usize, table);
+        let more = visit(rules, 64 * w + usize::from(i), table);
         fallen = sets::union(fallen, more);
         rest = sets::without(rest, i);
     }
@@ -159,15 +122,14 @@ fn visit_word(words: &[u16], places: &[u16], rules: u64, w: usize, table: &mut [
 
 // The left side of rule p costs no more than its right side, and where it costs as much, its rule is no higher than p. Gives the left side
 // where its cost falls.
-fn visit(words: &[u16], places: &[u16], p: usize, table: &mut [u32]) -> u64
-    requires ready { Ready words.now places.now }
-    requires p_bound { p < rule_count words.now }
-    requires held { Held words.now table.old }
-    ensures { Revised words.now (λ q. q ≡ p) table.old table.new result }
+fn visit(rules: &Rules<'_>, p: usize, table: &mut [u32]) -> u64
+    requires p_bound { p < rule_count rules.now }
+    requires held { Held rules.now table.old }
+    ensures { Revised rules.now (λ q. q ≡ p) table.old table.new result }
 {
-    let sum = capped(rule_cost(words, places, p, table));
-    let k = shape::left_of(words, places, p);
-    let at = 64 + k as usize;
+    let sum = capped(rule_cost(rules, p, table));
+    let k = rules.left_of(p);
+    let at = 64 + usize::from(k);
     let cost = table[at];
     if stays(cost, table[64 + at], sum, p as u32) {
         return 0;
@@ -182,38 +144,26 @@ fn capped(sum: u32) -> u32
     ensures { Capped sum result }
 {
     if sum < OVER {
-        return sum;
+        sum
+    } else if sum < NONE {
+        OVER
+    } else {
+        NONE
     }
-    if sum < NONE {
-        return OVER;
-    }
-    NONE
 }
 
 // Rule p, whose right side costs the sum, changes neither the cost nor the rule of its left side.
 fn stays(cost: u32, rule: u32, sum: u32, p: u32) -> bool
     ensures { Chosen cost rule sum p result }
 {
-    if cost < sum {
-        return true;
-    }
-    if sum < cost {
-        return false;
-    }
-    if OVER <= sum {
-        return true;
-    }
-    rule <= p
+    cost < sum || (cost == sum && (OVER <= sum || rule <= p))
 }
 
 // The rule of a known cost; one above has none.
 fn known(sum: u32, p: u32) -> u32
     ensures { Known sum p result }
 {
-    if sum < OVER {
-        return p;
-    }
-    0
+    if sum < OVER { p } else { 0 }
 }
 
 // Nonterminal k where its cost falls.
@@ -221,24 +171,18 @@ fn fell(cost: u32, sum: u32, k: u16) -> u64
     requires { k < 64 }
     ensures { Fell cost sum k result }
 {
-    if sum < cost {
-        return sets::with(0, k);
-    }
-    0
+    if sum < cost { sets::with(0, k) } else { 0 }
 }
 
-// The sum over rule p's right side, from its end. Eight costs are far below 2 ^ 32.
-fn rule_cost(words: &[u16], places: &[u16], p: usize, table: &[u32]) -> u32
-    requires ready { Ready words.now places.now }
-    requires p_bound { p < rule_count words.now }
+// The sum over rule p's right side. Eight costs are far below 2 ^ 32.
+fn rule_cost(rules: &Rules<'_>, p: usize, table: &[u32]) -> u32
+    requires p_bound { p < rule_count rules.now }
     requires limited { Limited table.now }
-    ensures { result ≡ total (entry table.now) (right_side words.now p) }
+    ensures { result ≡ total (entry table.now) (right_side rules.now p) }
 {
-    let mut i = shape::size_of(words, places, p);
-    let mut sum: u32 = 0;
-    while 0 < i {
-        i -= 1;
-        sum += table[shape::symbol_at(words, places, p, i) as usize];
+    let mut sum = 0;
+    for &x in rules.right_side(p) {
+        sum += table[usize::from(x)];
     }
     sum
 }

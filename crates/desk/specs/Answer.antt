@@ -1,17 +1,9 @@
--- What the desk's answers mean, and what is known where the words are accepted.
+-- What is known where the words are accepted.
 use Rattle.std.specs.Prelude.{ℕ, ◌≡◌, List, length}
 use Rattle.std.proofs.Math.Option.{none}
 use Rattle.grammar.specs.Buffers.{cleared}
 use Rattle.grammar.specs.Grammar.{Verdict}
-use Rattle.grammar.specs.Refusals.{Outcome, given, refused}
 use Rattle.verdict.specs.Answer.{Priced}
-use Rattle.desk.specs.declared.Desk.{Desk}
-use Rattle.desk.specs.declared.Desk.TheVariants.{Listed, Refused}
-
--- What each answer stands for: the number of nonterminals, or the refusal.
-abbrev pub desk_of : Desk → Outcome ℕ
-desk_of (Listed n) = given n
-desk_of (Refused r) = refused r
 
 -- Accepted words with their table, and two clear buffers.
 pub record CanList (ws table costs rules : List ℕ) : Type 0 where

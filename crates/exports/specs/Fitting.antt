@@ -1,7 +1,10 @@
--- Blank buffers with the first cells written as far as they fit: fits-none to fits-four.
-use Prim.Native.Nat.{ℕ, zero, suc, ◌≤◌}
-use Rattle.std.proofs.Common.{arith}
-use Rattle.std.specs.Prelude.{◌≡◌, take, set, replicate}
+-- Blank buffers with the first cells written as far as they fit: fits_none to fits_four; and fits, whose values may be any.
+use Prim.Native.Nat.{ℕ, zero, suc, ◌-◌, ◌≤◌, min}
+use Rattle.std.proofs.Common.{arith, length, take_all, take_at, ◌++◌, ◌∙◌, append-nil, length-append, length-drop, length-take-le}
+use Rattle.std.proofs.lemmas.List.{take-append-le}
+use Rattle.std.specs.Prelude.{◌≡◌, take, drop, set, replicate}
+use Rattle.std.proofs.Math.Decide.{dec_lt}
+use Rattle.std.proofs.Math.Logic.{dite}
 use Rattle.std.proofs.Math.Path.{refl, sym, ap}
 use mathlib.Core.List.{List, [], ◌∷◌}
 use Rattle.exports.specs.Status.{fitted}
@@ -44,3 +47,43 @@ module _ {A : Type 0} (z : A) where
   fits_four (suc (suc (suc zero))) a b d e = refl
   fits_four (suc (suc (suc (suc n)))) a b d e =
       ap (λ (l : List A). a ∷ b ∷ d ∷ e ∷ l) (sym (take_blank n (suc (suc (suc (suc n)))) (omega arith)))
+
+  -- What fits of a list that ends before the room does: all of it, and blanks behind it.
+  take_behind : (xs : List A) (room : ℕ) → length xs ≤ room → take room (xs ++ replicate room z) ≡ xs ++ replicate (room - length xs) z
+  take_behind xs room l = go xs room room l (omega arith)
+    where
+      go : (xs : List A) (room more : ℕ) → length xs ≤ room → room ≤ more
+          → take room (xs ++ replicate more z) ≡ xs ++ replicate (room - length xs) z
+      go [] room more l m = take_blank room more m ∙ ap (λ (n : ℕ). replicate n z) (omega arith)
+      go (x ∷ xs) zero more l m = absurd (omega arith)
+      go (x ∷ xs) (suc room) more l m =
+          ap (λ (l : List A). x ∷ l)
+          (go xs room more (omega arith) (omega arith) ∙ ap (λ (n : ℕ). xs ++ replicate n z) (omega arith))
+
+  -- As many values as fit, and blanks behind them.
+  pub fits : (room : ℕ) (xs : List A) (n : ℕ) → n ≡ min room (length xs) → take n xs ++ replicate (room - n) z ≡ fitted z room xs
+  unfolding fitted
+  fits room xs n e =
+      dite (dec_lt (length xs) room)
+      (λ less.
+      let all : n ≡ length xs = omega arith in
+      ap (λ (k : ℕ). take k xs ++ replicate (room - k) z) all
+      ∙ (ap (λ (l : List A). l ++ replicate (room - length xs) z) (take_all (length xs) xs (omega arith))
+      ∙ sym (take_behind xs room (omega arith))))
+      (λ more.
+      let full : n ≡ room = omega arith in
+      let none : room - room ≡ 0 = omega arith in
+      ap (λ (k : ℕ). take k xs ++ replicate (room - k) z) full
+      ∙ (ap (λ (k : ℕ). take room xs ++ replicate k z) none
+      ∙ (append-nil (take room xs) ∙ sym (take-append-le room xs (replicate room z) (omega arith)))))
+
+  -- The same where the values were written over a buffer first.
+  pub fits_over : (old xs : List A) {written new : List A} {n : ℕ} → n ≡ min (length old) (length xs) → written ≡ take n xs
+      → new ≡ take n (written ++ drop n old) ++ replicate (length (written ++ drop n old) - n) z → new ≡ fitted z (length old) xs
+  fits_over old xs {written} {new} {n} e w f =
+      let size : length written ≡ n = ap length w ∙ length-take-le n xs (omega arith) in
+      let front : take n (written ++ drop n old) ≡ take n xs = take_at written (drop n old) n size ∙ w in
+      let whole : length (written ++ drop n old) ≡ length old = simp (length-append, length-drop) (omega arith) in
+      f
+      ∙ (ap (λ (l : List A). l ++ replicate (length (written ++ drop n old) - n) z) front
+      ∙ (ap (λ (k : ℕ). take n xs ++ replicate (k - n) z) whole ∙ fits (length old) xs n e))

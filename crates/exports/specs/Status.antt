@@ -1,5 +1,5 @@
 -- What each exported function answers and leaves in the lent buffers, over the answers of the functions that it calls.
-use Rattle.std.specs.Prelude.{ℕ, ◌≡◌, List, [], ◌∷◌, ◌++◌, false, pos, Float, take, replicate, set}
+use Rattle.std.specs.Prelude.{ℕ, ◌≡◌, List, [], ◌∷◌, ◌++◌, false, pos, Float, take, replicate}
 use Rattle.std.proofs.Math.Option.{Option, none, some}
 use Rattle.std.specs.Float.{nan, fin}
 use Rattle.grammar.specs.Refusals.{Outcome, given, refused, number_of}
@@ -114,10 +114,3 @@ pub record PacedAs (words log ticks : List ℕ) (edit_room rule_room count_room 
   pub answered : AnsweredAs (λ (o : Outcome (Report × Counts)). Reported words log ticks edit_room rule_room o edits rules)
       (λ a. pace_status a.0.pace) (λ a. a.0.count ∷ a.0.sum ∷ []) count_room status counts
   pub mean_is : mean ≡ fitted plus_zero mean_room (cells_of (λ a. pace_float a.0.pace ∷ []) answered.outcome)
-
--- A report is written over the two buffers as far as it fits, under its status.
-pub record Put (report : Report) (counts : List ℕ) (mean : List Float) (status : ℕ) (counts_then : List ℕ)
-    (mean_then : List Float) : Type 0 where
-  pub status_is : status ≡ pace_status report.pace
-  pub counts_are : counts_then ≡ set (set counts 0 report.count) 1 report.sum
-  pub mean_is : mean_then ≡ set mean 0 (pace_float report.pace)

@@ -2,27 +2,24 @@
 // slices alone. None asks for anything beforehand. `include/odhrashup.h` declares them.
 #![tactic(auto)]
 
-ghost use Rattle.std.specs.Prelude.{◌≡◌, length, replicate, set};
+ghost use Rattle.std.specs.Prelude.{◌≡◌, [], ◌∷◌, length};
+ghost use Rattle.grammar.specs.Refusals.{number_of};
 ghost use Rattle.exports.specs.Status.{
   CheckedAs,
   DeskAs,
   MarksAs,
   PacedAs,
   ParsedAs,
-  Put,
   ReadAs,
   WrittenAs,
+  counted,
+  fitted,
+  pace_float,
+  pace_status,
   plus_zero,
 };
 
-use desk::Desk;
-use file::Reading;
-use grammar::{Pace, Report};
-use marks::Marking;
-use pace::Paced;
-use parser::Parsing;
-use verdict::Checked;
-use writer::Writing;
+use grammar::{Pace, Refusal, Report};
 
 // The status of a report without a clean cycle.
 const IDLE: u32 = 1000;
@@ -33,14 +30,9 @@ pub extern "C" fn odhrashup_read(bytes: &[u8], words: &mut [u16], counts: &mut [
     ensures { ReadAs bytes.now (length words.old) (length counts.old) result
         words.new counts.new }
 {
-    base::clear_numbers(counts);
-    let reading = file::read(bytes, words);
-    match reading {
-        Reading::Words(count) => {
-            put(counts, 0, count as u64);
-            0
-        }
-        Reading::Refused(refusal) => grammar::number_of(refusal),
+    match file::read(bytes, words) {
+        Ok(count) => accepted(counts, &[count as u64]),
+        Err(unread) => refused(counts, unread),
     }
 }
 
@@ -50,14 +42,9 @@ pub extern "C" fn odhrashup_write(words: &[u16], bytes: &mut [u8], counts: &mut 
     ensures { WrittenAs words.now (length bytes.old) (length counts.old) result
         bytes.new counts.new }
 {
-    base::clear_numbers(counts);
-    let writing = writer::write(words, bytes);
-    match writing {
-        Writing::Bytes(size) => {
-            put(counts, 0, size as u64);
-            0
-        }
-        Writing::Refused(refusal) => grammar::number_of(refusal),
+    match writer::write(words, bytes) {
+        Ok(size) => accepted(counts, &[size as u64]),
+        Err(unwritten) => refused(counts, unwritten),
     }
 }
 
@@ -66,10 +53,9 @@ pub extern "C" fn odhrashup_write(words: &[u16], bytes: &mut [u8], counts: &mut 
 pub extern "C" fn odhrashup_check(words: &[u16]) -> u32
     ensures { CheckedAs words.now result }
 {
-    let checked = verdict::check(words);
-    match checked {
-        Checked::Accepted => 0,
-        Checked::Refused(refusal) => grammar::number_of(refusal),
+    match verdict::check(words) {
+        Ok(()) => 0,
+        Err(refusal) => u32::from(refusal),
     }
 }
 
@@ -84,14 +70,9 @@ pub extern "C" fn odhrashup_costs(
     ensures { DeskAs words.now (length costs.old) (length rules.old)
         (length counts.old) result costs.new rules.new counts.new }
 {
-    base::clear_numbers(counts);
-    let answer = desk::costs(words, costs, rules);
-    match answer {
-        Desk::Listed(nonterminals) => {
-            put(counts, 0, nonterminals as u64);
-            0
-        }
-        Desk::Refused(refusal) => grammar::number_of(refusal),
+    match desk::costs(words, costs, rules) {
+        Ok(nonterminals) => accepted(counts, &[nonterminals as u64]),
+        Err(unlisted) => refused(counts, unlisted),
     }
 }
 
@@ -107,16 +88,12 @@ pub extern "C" fn odhrashup_parse(
     ensures { ParsedAs words.now log.now (length edits.old) (length rules.old)
         (length counts.old) result edits.new rules.new counts.new }
 {
-    base::clear_numbers(counts);
-    let parsing = parser::parse(words, log, edits, rules);
-    match parsing {
-        Parsing::Parsed(made) => {
-            put(counts, 0, made.moves as u64);
-            put(counts, 1, made.records as u64);
-            put(counts, 2, made.listed as u64);
-            0
+    match parser::parse(words, log, edits, rules) {
+        Ok(made) => {
+            let three = [made.moves as u64, made.records as u64, made.listed as u64];
+            accepted(counts, &three)
         }
-        Parsing::Refused(refusal) => grammar::number_of(refusal),
+        Err(unparsed) => refused(counts, unparsed),
     }
 }
 
@@ -135,17 +112,17 @@ pub extern "C" fn odhrashup_marks(
         (length tokens.old) (length counts.old) result edits.new rules.new tokens.new
         counts.new }
 {
-    base::clear_numbers(counts);
-    let marking = marks::marks(words, log, edits, rules, tokens);
-    match marking {
-        Marking::Marked(parse, size) => {
-            put(counts, 0, parse.moves as u64);
-            put(counts, 1, parse.records as u64);
-            put(counts, 2, parse.listed as u64);
-            put(counts, 3, size as u64);
-            0
+    match marks::marks(words, log, edits, rules, tokens) {
+        Ok((parse, size)) => {
+            let four = [
+                parse.moves as u64,
+                parse.records as u64,
+                parse.listed as u64,
+                size as u64,
+            ];
+            accepted(counts, &four)
         }
-        Marking::Refused(refusal) => grammar::number_of(refusal),
+        Err(unmarked) => refused(counts, unmarked),
     }
 }
 
@@ -165,29 +142,30 @@ pub extern "C" fn odhrashup_pace(
         (length rules.old) (length counts.old) (length mean.old) result edits.new
         rules.new counts.new mean.new }
 {
-    base::clear_numbers(counts);
-    clear_mean(mean);
-    let paced = pace::report(words, log, ticks, edits, rules);
-    match paced {
-        Paced::Reported(report, _) => put_report(report, counts, mean),
-        Paced::Refused(refusal) => grammar::number_of(refusal),
+    match pace::report(words, log, ticks, edits, rules) {
+        Ok((report, _)) => put_report(report, counts, mean),
+        Err(unpaced) => {
+            fit(mean, &[], 0.0);
+            refused(counts, unpaced)
+        }
     }
 }
 
 // Writes a report where it fits, and gives its status.
 fn put_report(report: Report, counts: &mut [u64], mean: &mut [f64]) -> u32
-    ensures { Put report counts.old mean.old result counts.new mean.new }
+    ensures status { result ≡ pace_status report.pace }
+    ensures counts { counts.new ≡ counted (length counts.old) (report.count ∷ report.sum ∷ []) }
+    ensures mean { mean.new ≡ fitted plus_zero (length mean.old) (pace_float report.pace ∷ []) }
 {
-    put(counts, 0, report.count as u64);
-    put(counts, 1, report.sum);
-    let pace = report.pace;
-    match pace {
+    fit(counts, &[u64::from(report.count), report.sum], 0);
+    match report.pace {
         Pace::Mean(ms) => {
-            put_mean(mean, ms);
+            fit(mean, &[ms], 0.0);
             0
         }
         Pace::Idle => {
-            put_mean(mean, 0.0 / 0.0);
+            let none = 0.0 / 0.0;
+            fit(mean, &[none], 0.0);
             IDLE
         }
     }
@@ -195,31 +173,29 @@ fn put_report(report: Report, counts: &mut [u64], mean: &mut [f64]) -> u32
 
 // ---- What they share
 
-// Writes one count where it fits.
-fn put(counts: &mut [u64], at: usize, count: u64)
-    ensures { counts.new ≡ set counts.old at count }
+// Writes the counts of an answer, and gives its status.
+fn accepted(counts: &mut [u64], values: &[u64]) -> u32
+    ensures status { result ≡ 0 }
+    ensures counts { counts.new ≡ counted (length counts.old) values.now }
 {
-    if at < counts.len() {
-        counts[at] = count;
-    }
+    fit(counts, values, 0);
+    0
 }
 
-// Makes every cell 0.0.
-fn clear_mean(mean: &mut [f64])
-    ensures { mean.new ≡ replicate (length mean.old) plus_zero }
+// Leaves no count, and gives the status of a refusal.
+fn refused(counts: &mut [u64], refusal: Refusal) -> u32
+    ensures status { result ≡ number_of refusal }
+    ensures counts { counts.new ≡ counted (length counts.old) [] }
 {
-    let mut i = 0;
-    while i < mean.len() {
-        mean[i] = 0.0;
-        i += 1;
-    }
+    fit(counts, &[], 0);
+    u32::from(refusal)
 }
 
-// Writes the mean where it fits.
-fn put_mean(mean: &mut [f64], ms: f64)
-    ensures { mean.new ≡ set mean.old 0 ms }
+// Writes values from the buffer's front on, as far as they fit, and `blank` into every cell behind them.
+fn fit<T: Copy>(cells: &mut [T], values: &[T], blank: T)
+    ensures { cells.new ≡ fitted blank (length cells.old) values.now }
 {
-    if 0 < mean.len() {
-        mean[0] = ms;
-    }
+    let count = cells.len().min(values.len());
+    cells[..count].copy_from_slice(&values[..count]);
+    base::fill_from(cells, count, blank);
 }

@@ -16,42 +16,36 @@ ghost use Rattle.grammar.specs.File.{
 };
 ghost use Rattle.base.specs.Written.{begun, written};
 ghost use Rattle.grammar.specs.Theory.Files.{CheckRight, block_words};
-ghost use Rattle.file.specs.Answer.{AllZero, UnusedZero, reading_of};
+ghost use Rattle.grammar.specs.Refusals.{outcome_of};
+ghost use Rattle.file.specs.Answer.{AllZero, FieldsRight, UnusedZero};
 
 use block::{BLOCK_BYTES, BLOCK_WORDS, CHECK, FIRST_WORD, USE_COUNT};
 use grammar::Refusal;
-
-// The answer: the number of words read, or a refusal. `reading_of` of specs/Answer.antt says what each stands for.
-#[derive(Clone, Copy)]
-pub enum Reading {
-    Words(usize),
-    Refused(Refusal),
-}
 
 // Eleven blocks.
 const LARGEST_FILE: usize = 5632;
 
 // Reads the file's words into the buffer, behind which it is zero; or gives the lowest refusal of 1 to 4 that applies,
 // and the whole buffer is zero. The buffer is cleared first, so that no refusal can leave an old word in it.
-pub fn read(bytes: &[u8], words: &mut [u16]) -> Reading
-    ensures { FileRead bytes.now (length words.old) (reading_of result) words.new }
+pub fn read(bytes: &[u8], words: &mut [u16]) -> Result<usize, Refusal>
+    ensures { FileRead bytes.now (length words.old) (outcome_of result) words.new }
 {
-    base::clear_words(words, 0);
-    if size_right(bytes.len()) {} else {
-        return Reading::Refused(Refusal::BadSize);
+    base::fill_from(words, 0, 0);
+    if !size_right(bytes.len()) {
+        return Err(Refusal::BadSize);
     }
-    if checks_right(bytes) {} else {
-        return Reading::Refused(Refusal::BadCheck);
+    if !checks_right(bytes) {
+        return Err(Refusal::BadCheck);
     }
-    if blocks_right(bytes) {} else {
-        return Reading::Refused(Refusal::BadBlock);
+    if !blocks_right(bytes) {
+        return Err(Refusal::BadBlock);
     }
     let count = word_count(bytes);
     if words.len() < count {
-        return Reading::Refused(Refusal::ShortWords);
+        return Err(Refusal::ShortWords);
     }
     copy_blocks(bytes, words);
-    Reading::Words(count)
+    Ok(count)
 }
 
 // ---- Refusal 1
@@ -60,13 +54,7 @@ pub fn read(bytes: &[u8], words: &mut [u16]) -> Reading
 fn size_right(size: usize) -> bool
     ensures { Tells (FileSize size) result }
 {
-    if size == 0 {
-        return false;
-    }
-    if size % BLOCK_BYTES != 0 {
-        return false;
-    }
-    size <= LARGEST_FILE
+    size != 0 && size % BLOCK_BYTES == 0 && size <= LARGEST_FILE
 }
 
 // ---- Refusal 2
@@ -75,24 +63,15 @@ fn size_right(size: usize) -> bool
 fn checks_right(bytes: &[u8]) -> bool
     ensures { Tells (EachBlock bytes.now (CheckRight bytes.now)) result }
 {
-    let count = bytes.len() / BLOCK_BYTES;
-    let mut k = 0;
-    while k < count {
-        if check_right(bytes, k) {} else {
-            return false;
-        }
-        k += 1;
-    }
-    true
+    bytes.chunks_exact(BLOCK_BYTES).all(check_right)
 }
 
-// The check of block k stands in its last two bytes.
-fn check_right(bytes: &[u8], k: usize) -> bool
-    requires { k < block_count bytes.now }
-    ensures { Tells (CheckRight bytes.now k) result }
+// The check of a block stands in its last two bytes.
+fn check_right(block: &[u8]) -> bool
+    requires { length block.now ≡ 512 }
+    ensures { Tells (CheckRight block.now 0) result }
 {
-    let start = BLOCK_BYTES * k;
-    pair(bytes, start + CHECK) == block::check_of(bytes, start, CHECK)
+    pair(block, CHECK) == block::check_of(&block[..CHECK])
 }
 
 // ---- Refusal 3
@@ -102,30 +81,20 @@ fn blocks_right(bytes: &[u8]) -> bool
     ensures { Tells (EachBlock bytes.now (BlockFields bytes.now)) result }
 {
     let count = bytes.len() / BLOCK_BYTES;
-    let mut k = 0;
-    while k < count {
-        if fields_right(bytes, k, count) {} else {
-            return false;
-        }
-        k += 1;
-    }
-    true
+    bytes
+        .chunks_exact(BLOCK_BYTES)
+        .enumerate()
+        .all(|(k, block)| fields_right(block, k, count))
 }
 
-// Block number, use count and unused words of block k.
-fn fields_right(bytes: &[u8], k: usize, count: usize) -> bool
-    requires k_bound { k < block_count bytes.now }
-    requires count_value { count ≡ block_count bytes.now }
-    ensures { Tells (BlockFields bytes.now k) result }
+// Block number, use count and unused words of a block that is block k of so many.
+fn fields_right(block: &[u8], k: usize, count: usize) -> bool
+    requires block_size { length block.now ≡ 512 }
+    requires k_bound { k < count }
+    ensures { Tells (FieldsRight count k block.now) result }
 {
-    if number(bytes, BLOCK_BYTES * k) != k {
-        return false;
-    }
-    let used = number(bytes, BLOCK_BYTES * k + USE_COUNT);
-    if use_count_right(count, k, used) {} else {
-        return false;
-    }
-    unused_zero(bytes, k, used)
+    let used = number(block, USE_COUNT);
+    number(block, 0) == k && use_count_right(count, k, used) && unused_zero(block, used)
 }
 
 // Exactly 253 in every block but the last, 1 to 253 there.
@@ -136,22 +105,16 @@ fn use_count_right(count: usize, k: usize, used: usize) -> bool
     if k + 1 < count {
         return used == BLOCK_WORDS;
     }
-    if used == 0 {
-        return false;
-    }
-    used <= BLOCK_WORDS
+    used != 0 && used <= BLOCK_WORDS
 }
 
-// The words of block k behind the used ones.
-fn unused_zero(bytes: &[u8], k: usize, used: usize) -> bool
-    requires k_bound { k < block_count bytes.now }
+// The words of a block behind the used ones.
+fn unused_zero(block: &[u8], used: usize) -> bool
+    requires block_size { length block.now ≡ 512 }
     requires used_bound { used ≤ 253 }
-    ensures { Tells (UnusedZero bytes.now k used) result }
+    ensures { Tells (UnusedZero block.now 0 used) result }
 {
-    let start = BLOCK_BYTES * k;
-    let from = start + FIRST_WORD + 2 * used;
-    let end = start + CHECK;
-    all_zero(&bytes[from..end])
+    all_zero(&block[FIRST_WORD + 2 * used..CHECK])
 }
 
 // Every byte is zero. They are joined into one that is tested behind the loop: a loop that is never left early is compiled to take
@@ -160,10 +123,8 @@ fn all_zero(bytes: &[u8]) -> bool
     ensures { Tells (AllZero bytes.now) result }
 {
     let mut all: u8 = 0;
-    let mut i = 0;
-    while i < bytes.len() {
-        all |= bytes[i];
-        i += 1;
+    for &byte in bytes {
+        all |= byte;
     }
     all == 0
 }
@@ -186,29 +147,24 @@ fn copy_blocks(bytes: &[u8], words: &mut [u16])
     requires bytes_in_bounds { length (file_words bytes.now) ≤ length words.old }
     ensures { words.new ≡ begun words.old (file_words bytes.now) }
 {
-    let count = bytes.len() / BLOCK_BYTES;
     let mut at = 0;
-    let mut k = 0;
-    while k < count {
-        at = copy_block(bytes, k, words, at);
-        k += 1;
+    for block in bytes.chunks_exact(BLOCK_BYTES) {
+        at = copy_block(block, words, at);
     }
 }
 
-// Copies the used words of block k to the place `at` of the buffer, and gives the place behind them.
-fn copy_block(bytes: &[u8], k: usize, words: &mut [u16], at: usize) -> usize
-    requires k_bound { k < block_count bytes.now }
-    requires k_bound_2 { words_used bytes.now k ≤ 253 }
-    requires k_in_bounds { at + words_used bytes.now k ≤ length words.old }
-    ensures value { result ≡ at + words_used bytes.now k }
-    ensures words_after { words.new ≡ written words.old at (block_words bytes.now k) }
+// Copies the used words of a block to the place `at` of the buffer, and gives the place behind them. Kept: an index, for a proof knows no
+// element of a slice that `iter_mut` was called on.
+fn copy_block(block: &[u8], words: &mut [u16], at: usize) -> usize
+    requires block_size { length block.now ≡ 512 }
+    requires used_bound { words_used block.now 0 ≤ 253 }
+    requires used_in_bounds { at + words_used block.now 0 ≤ length words.old }
+    ensures value { result ≡ at + words_used block.now 0 }
+    ensures words_after { words.new ≡ written words.old at (block_words block.now 0) }
 {
-    let used = number(bytes, BLOCK_BYTES * k + USE_COUNT);
-    let start = BLOCK_BYTES * k + FIRST_WORD;
-    let mut i = 0;
-    while i < used {
-        words[at + i] = pair(bytes, start + 2 * i);
-        i += 1;
+    let used = number(block, USE_COUNT);
+    for i in 0..used {
+        words[at + i] = pair(block, FIRST_WORD + 2 * i);
     }
     at + used
 }
@@ -220,7 +176,7 @@ fn pair(bytes: &[u8], at: usize) -> u16
     requires { at + 1 < length bytes.now }
     ensures { result ≡ pair_at bytes.now at }
 {
-    base::pair(bytes[at], bytes[at + 1])
+    u16::from_le_bytes([bytes[at], bytes[at + 1]])
 }
 
 // The same, to count with.
@@ -228,5 +184,5 @@ fn number(bytes: &[u8], at: usize) -> usize
     requires { at + 1 < length bytes.now }
     ensures { result ≡ pair_at bytes.now at }
 {
-    base::wide(pair(bytes, at))
+    usize::from(pair(bytes, at))
 }

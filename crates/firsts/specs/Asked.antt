@@ -2,12 +2,11 @@
 use Rattle.grammar.specs.Grammar.{RuleOf}
 use Rattle.std.specs.Prelude.{ℕ, ◌<◌, ◌≡◌, List, length, get_or}
 use Rattle.grammar.specs.Theory.Masks.{FirstMask, NullMask}
-use Rattle.grammar.specs.Words.{rule_count, right_side, nonterminal_count}
-use Rattle.shape.specs.Ready.{Ready}
+use Rattle.grammar.specs.Words.{rule_count, right_side, nonterminal_count, Shaped}
 
--- Words with their places, the mask of nonterminals that can be empty, and a table of 64 sets.
-pub record Asked (ws places : List ℕ) (null : ℕ) (table : List ℕ) : Type 0 where
-  pub ready : Ready ws places
+-- Words that have the shape, the mask of nonterminals that can be empty, and a table of 64 sets.
+pub record Asked (ws : List ℕ) (null : ℕ) (table : List ℕ) : Type 0 where
+  pub shaped : Shaped ws
   pub nulls : NullMask (RuleOf ws) (nonterminal_count ws) null
   pub size : length table ≡ 64
 

@@ -85,10 +85,10 @@ begin_ends o l = record { begun = o.begun; given = λ q h. o.given q (omega arit
 -- ---- The end
 
 -- What comes to the sets is FIRST.
-pub begun_closed : {ws places table feeds begun sets : List ℕ} {null list : ℕ} → Asked ws places null table
+pub begun_closed : {ws table feeds begun sets : List ℕ} {null list : ℕ} → Asked ws null table
     → AllLed ws null feeds begun list → Closing feeds begun sets → FirstsOf ws sets
 begun_closed {ws} {feeds = feeds} {begun = begun} {sets = sets} {null = null} asked o c =
-    firsts_exact ws asked.ready.shaped null asked.nulls sets closed
+    firsts_exact ws asked.shaped null asked.nulls sets closed
     (record {
       size = c.size;
       sound = λ k t token m.

@@ -1,8 +1,7 @@
 -- The walk over a right side from its front to the first symbol that cannot be empty, which gathers what begins it.
-use Rattle.std.specs.Prelude.{ℕ, ◌+◌, ◌-◌, ◌≤◌, ◌<◌, ◌≡◌, true, false, List, [], ◌∷◌, ◌⊎◌, get_or, drop}
+use Rattle.std.specs.Prelude.{ℕ, ◌+◌, ◌-◌, ◌≤◌, ◌<◌, ◌≡◌, true, false, List, [], ◌∷◌, ◌⊎◌, length, get_or, drop}
 use Rattle.std.proofs.Common.{sym, ◌∙◌, subst, true≢false, inl, inr, ⊎_elim, arith}
-use Rattle.grammar.specs.Words.{right_side}
-use Rattle.shape.specs.Accessors.{SizeOf, SymbolAt, right_at, right_over}
+use Rattle.firsts.specs.Walk.{drop_at, drop_over}
 use Rattle.sets.specs.Bits.{member}
 use Rattle.sets.specs.Operations.{with, union}
 use Rattle.sets.specs.Laws.{empty_none, with_same, with_keeps, with_cases, union_left, union_right, union_cases}
@@ -19,17 +18,17 @@ module _ {null : ℕ} {firsts : List ℕ} {base : ℕ} where
   front_begins α = record { from = λ t o. inr o; got = λ t m. absurd (empty_none t m); rest = λ t o. o }
 
   -- The rest from symbol i on begins with it,
-  pub front_at : {ws α : List ℕ} {p n i x set : ℕ} → SizeOf ws p n → i < n → SymbolAt ws p i x
-      → Fronted null firsts base α (drop i (right_side ws p)) set → Fronted null firsts base α (x ∷ drop (i + 1) (right_side ws p)) set
-  front_at {α = α} {set = set} size below at = subst (λ β. Fronted null firsts base α β set) (right_at size below at)
+  pub front_at : (xs : List ℕ) {α : List ℕ} {i set : ℕ} → i < length xs
+      → Fronted null firsts base α (drop i xs) set → Fronted null firsts base α (get_or xs i 0 ∷ drop (i + 1) xs) set
+  front_at xs {α} {set = set} below = subst (λ β. Fronted null firsts base α β set) (drop_at xs below)
 
   -- and behind the last one it has nothing, so that what is behind begins it too.
-  pub front_ends : {ws α : List ℕ} {p n i set r : ℕ} → SizeOf ws p n → n ≤ i
-      → Fronted null firsts base α (drop i (right_side ws p)) set → r ≡ union set base → FirstWith null firsts base α r
-  front_ends {α = α} {set = set} {r} size over o is = record { exact = λ t. (there t, back t) }
+  pub front_ends : (xs : List ℕ) {α : List ℕ} {i set r : ℕ} → length xs ≤ i
+      → Fronted null firsts base α (drop i xs) set → r ≡ union set base → FirstWith null firsts base α r
+  front_ends xs {α} {set = set} {r} over o is = record { exact = λ t. (there t, back t) }
     where
       f : Fronted null firsts base α [] set
-      f = subst (λ β. Fronted null firsts base α β set) (right_over size over) o
+      f = subst (λ β. Fronted null firsts base α β set) (drop_over xs over) o
 
       there : (t : ℕ) → member r t ≡ true → Opens null firsts base t α
       there t m =

@@ -1,11 +1,12 @@
 -- The walk over a right side from its front to the first symbol that cannot be empty, which gives what can stand first to the left side.
-use Rattle.std.specs.Prelude.{ℕ, ◌+◌, ◌-◌, ◌≤◌, ◌<◌, ◌≡◌, refl, Bool, true, false, List, [], ◌∷◌, ◌⊎◌, get_or, drop}
+use Rattle.std.specs.Prelude.{ℕ, ◌+◌, ◌-◌, ◌≤◌, ◌<◌, ◌≡◌, refl, Bool, true, false, List, [], ◌∷◌, ◌⊎◌, length, get_or, drop}
 use Rattle.std.proofs.Common.{sym, ap, ◌∙◌, subst, true≢false, inl, inr, ⊎_elim, arith}
 use Rattle.grammar.specs.Words.{Terminal, rule_count, right_side}
 use Rattle.grammar.specs.Derivation.{First}
 use Rattle.grammar.specs.Grammar.{RuleOf}
 use Rattle.grammar.specs.Theory.Firsts.{first_self}
-use Rattle.shape.specs.Accessors.{LeftOf, SizeOf, SymbolAt, right_at, right_over}
+use Rattle.shape.specs.Accessors.{LeftOf}
+use Rattle.firsts.specs.Walk.{drop_at, drop_over}
 use Rattle.sets.specs.Bits.{member}
 use Rattle.sets.specs.Operations.{with}
 use Rattle.sets.specs.Laws.{empty_none, with_same, with_keeps, with_cases}
@@ -30,22 +31,22 @@ pub lead_begins : {ws : List ℕ} {null p k : ℕ} {feeds sets : List ℕ} {list
 lead_begins b = record { begun = b; fed = λ j t m. m; kept = λ j t m. m; inside = λ X o. o; given = λ X o. inr o }
 
 -- The rest from symbol i on begins with it,
-pub lead_at : {ws : List ℕ} {null p k i x n list : ℕ} {feeds₀ sets₀ feeds sets : List ℕ} → SizeOf ws p n → i < n → SymbolAt ws p i x
-    → Leading ws null p k (drop i (right_side ws p)) feeds₀ sets₀ feeds sets list
-    → Leading ws null p k (x ∷ drop (i + 1) (right_side ws p)) feeds₀ sets₀ feeds sets list
-lead_at {ws} {null} {p} {k} {list = list} {feeds₀} {sets₀} {feeds} {sets} size below at l =
-    subst (λ α. Leading ws null p k α feeds₀ sets₀ feeds sets list) (right_at size below at) l
+pub lead_at : (xs : List ℕ) {ws : List ℕ} {null p k i list : ℕ} {feeds₀ sets₀ feeds sets : List ℕ} → i < length xs
+    → Leading ws null p k (drop i xs) feeds₀ sets₀ feeds sets list
+    → Leading ws null p k (get_or xs i 0 ∷ drop (i + 1) xs) feeds₀ sets₀ feeds sets list
+lead_at xs {ws} {null} {p} {k} {list = list} {feeds₀} {sets₀} {feeds} {sets} below l =
+    subst (λ α. Leading ws null p k α feeds₀ sets₀ feeds sets list) (drop_at xs below) l
 
 -- and behind the last one it has nothing.
-pub lead_none : {ws : List ℕ} {null p k i n list : ℕ} {feeds₀ sets₀ feeds sets : List ℕ} → SizeOf ws p n → n ≤ i
-    → Leading ws null p k (drop i (right_side ws p)) feeds₀ sets₀ feeds sets list → Leading ws null p k [] feeds₀ sets₀ feeds sets list
-lead_none {ws} {null} {p} {k} {list = list} {feeds₀} {sets₀} {feeds} {sets} size over l =
-    subst (λ α. Leading ws null p k α feeds₀ sets₀ feeds sets list) (right_over size over) l
+pub lead_none : (xs : List ℕ) {ws : List ℕ} {null p k i list : ℕ} {feeds₀ sets₀ feeds sets : List ℕ} → length xs ≤ i
+    → Leading ws null p k (drop i xs) feeds₀ sets₀ feeds sets list → Leading ws null p k [] feeds₀ sets₀ feeds sets list
+lead_none xs {ws} {null} {p} {k} {list = list} {feeds₀} {sets₀} {feeds} {sets} over l =
+    subst (λ α. Leading ws null p k α feeds₀ sets₀ feeds sets list) (drop_over xs over) l
 
 module _
-    {ws places table : List ℕ}
+    {ws table : List ℕ}
     {null : ℕ}
-    (asked : Asked ws places null table)
+    (asked : Asked ws null table)
     {p k : ℕ}
     (counted : p < rule_count ws)
     (left : LeftOf ws p k)
@@ -93,7 +94,7 @@ module _
                 let e : x ≡ t =
                 ⊎_elim (λ i. i) (λ i. absurd (empty_none t i)) (with_cases 0 x t (subst (λ n. member n t ≡ true) is c.1)) in
                 subst (λ n. First (RuleOf ws) ((64 + n) ∷ []) t) (sym c.0)
-                (corner_first ws asked.ready.shaped null asked.nulls counted left token (l.inside x (Corner.here refl))
+                (corner_first ws asked.shaped null asked.nulls counted left token (l.inside x (Corner.here refl))
                 (subst (λ X. First (RuleOf ws) (X ∷ []) t) (sym e) (first_self (RuleOf ws) t token))))
                 (a.source j t m);
           }
@@ -125,7 +126,7 @@ module _
           (λ c.
           let at : 64 + j ≡ x = ap (λ n. 64 + n) c.0 ∙ number_symbol x high in
           subst (λ n. First (RuleOf ws) ((64 + n) ∷ []) t) (only m c.1)
-          (corner_first ws asked.ready.shaped null asked.nulls counted left token (l.inside x (Corner.here refl))
+          (corner_first ws asked.shaped null asked.nulls counted left token (l.inside x (Corner.here refl))
           (subst (λ X. First (RuleOf ws) (X ∷ []) t) at f)))
           (a.source j m h)
 

@@ -1,9 +1,10 @@
+pub mod Walk
 pub mod Opens
 pub mod Masks
 pub mod Asked
+pub mod Exact
 pub mod Corners
 pub mod Firsts
 pub mod Begun
 pub mod Leading
 pub mod Fronts
-pub mod Walk

@@ -15,8 +15,9 @@ use Rattle.base.specs.Blank.{Blank}
 use Rattle.growth.specs.Added.{Added, blank_none}
 use Rattle.growth.specs.Closing.{Closing, Comes, Listed, Noted, closing_has}
 use Rattle.firsts.specs.Opens.{Opens}
-use Rattle.firsts.specs.Masks.{number_symbol}
-use Rattle.follows.specs.Follows.{FollowsOf, Needed, SoundFollows, Fed, ClosedFollows, follows_exact}
+use Rattle.firsts.specs.Asked.{Asked}
+use Rattle.firsts.specs.Masks.{FirstsOf, number_symbol}
+use Rattle.follows.specs.Follows.{FollowsOf, SoundFollows, Fed, ClosedFollows, follows_exact}
 use Rattle.follows.specs.Feeding.{Tails, Tailed, fed_kept}
 use Rattle.follows.specs.Lasts.{NullBy, Last, LastsOf, last_follow}
 
@@ -65,11 +66,11 @@ pub begin_none : {ws : List ℕ} {null : ℕ} {firsts : List ℕ} {list : ℕ} {
     → RulesFed ws null firsts 0 feeds sets list
 begin_none b = record { begun = b; tails = λ q h. absurd (omega arith); lasts = λ q h. absurd (omega arith) }
 
-pub begin_goes : {ws places table : List ℕ} {null : ℕ} {firsts : List ℕ} {p k mask list more : ℕ} {feeds feeds' sets sets' : List ℕ}
-    {b : Bool} → Needed ws places null firsts table → RulesFed ws null firsts p feeds sets list → p < rule_count ws
+pub begin_goes : {ws : List ℕ} {null : ℕ} {firsts : List ℕ} {p k mask list more : ℕ} {feeds feeds' sets sets' : List ℕ}
+    {b : Bool} → Asked ws null firsts → RulesFed ws null firsts p feeds sets list → p < rule_count ws
     → RuleFed ws null firsts p sets sets' mask → LeftOf ws p k → Added feeds k mask feeds' b → Noted list k b more
     → RulesFed ws null firsts (p + 1) feeds' sets' more
-begin_goes {ws} {null = null} {firsts} {p} {k} {mask} {list} {more} {feeds} {feeds'} {sets' = sets'} {b} need o h rule left a note =
+begin_goes {ws} {null = null} {firsts} {p} {k} {mask} {list} {more} {feeds} {feeds'} {sets' = sets'} {b} asked o h rule left a note =
     record {
       begun = record { size = a.same ∙ o.begun.size; sound = rule.tailed.sound; passes = passes; listed = listed b refl };
       tails = below_more (λ q. Tails ws null firsts q sets') p (λ q i t. fed_kept rule.tailed.kept (o.tails q i t)) rule.tailed.tails;
@@ -81,7 +82,7 @@ begin_goes {ws} {null = null} {firsts} {p} {k} {mask} {list} {more} {feeds} {fee
     passes n j t m f =
         ⊎_elim (λ i. o.begun.passes n j t i f)
         (λ c.
-        last_follow ws need.asked.ready.shaped null need.asked.nulls h left ((rule.lasts.exact j).0 c.1)
+        last_follow ws asked.shaped null asked.nulls h left ((rule.lasts.exact j).0 c.1)
         (subst (λ i. Follow (RuleOf ws) start_over_end (64 + i) t) c.0 f))
         (a.source n j m)
 
@@ -125,11 +126,11 @@ fed_with (Fed.also {X = X} g rest) f =
     (fed_with rest (λ j l. f j (Last.later l)))
 
 -- What comes to the sets is FOLLOW.
-pub begun_closed : {ws places table feeds begun sets : List ℕ} {null : ℕ} {firsts : List ℕ} {list : ℕ}
-    → Needed ws places null firsts table → AllFed ws null firsts feeds begun list → Closing feeds begun sets
+pub begun_closed : {ws feeds begun sets : List ℕ} {null : ℕ} {firsts : List ℕ} {list : ℕ}
+    → Asked ws null firsts → FirstsOf ws firsts → AllFed ws null firsts feeds begun list → Closing feeds begun sets
     → FollowsOf ws sets
-begun_closed {ws} {feeds = feeds} {begun = begun} {sets = sets} {null = null} {firsts = firsts} need o c =
-    follows_exact ws need.asked.ready.shaped null need.asked.nulls firsts need.exact sets closed
+begun_closed {ws} {feeds = feeds} {begun = begun} {sets = sets} {null = null} {firsts = firsts} asked exact o c =
+    follows_exact ws asked.shaped null asked.nulls firsts exact sets closed
     (record {
       size = c.size;
       sound = λ k t token m.

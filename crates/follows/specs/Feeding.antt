@@ -7,17 +7,17 @@ use Rattle.grammar.specs.Derivation.{All, Derives, Follow, Reachable}
 use Rattle.grammar.specs.Grammar.{RuleOf, start_over_end}
 use Rattle.grammar.specs.Theory.Closed.{all_rest}
 use Rattle.grammar.specs.Theory.RightSides.{right_symbols, rule_at}
-use Rattle.shape.specs.Accessors.{SizeOf, SymbolAt, right_none, right_from}
 use Rattle.sets.specs.Bits.{member}
 use Rattle.sets.specs.Operations.{with}
 use Rattle.sets.specs.Laws.{empty_none, with_same, with_cases}
 use Rattle.base.specs.Blank.{Blank}
 use Rattle.growth.specs.Added.{Added, Kept, blank_none}
 use Rattle.firsts.specs.Opens.{Opens, FirstWith}
-use Rattle.firsts.specs.Masks.{opens_exact}
-use Rattle.firsts.specs.Walk.{Walked, walk_begins, walk_goes}
+use Rattle.firsts.specs.Asked.{Asked}
+use Rattle.firsts.specs.Masks.{FirstsOf, opens_exact}
+use Rattle.firsts.specs.Walk.{At, Walked, at_front, drop_over, walk_begins, walk_goes}
 use Rattle.grammar.specs.Theory.Follows.{follow_inside, with_end}
-use Rattle.follows.specs.Follows.{Needed, SoundFollows, Fed}
+use Rattle.follows.specs.Follows.{Reached, SoundFollows, Fed}
 
 -- The members of `mask` were added to the set of symbol x, where x is a nonterminal; a terminal has none.
 pub data AddedBehind (old : List ℕ) (x mask : ℕ) (new : List ℕ) : Type 0 where
@@ -71,59 +71,60 @@ pub record Feeding (ws : List ℕ) (null : ℕ) (firsts : List ℕ) (p i set : �
   pub kept : Kept old new
   pub fed : (t : ℕ) → Fed null firsts 0 t new (drop i (right_side ws p))
 
-pub feeding_begins : {ws : List ℕ} {null : ℕ} {firsts : List ℕ} {p n : ℕ} {old : List ℕ} → SizeOf ws p n → SoundFollows ws old
-    → Feeding ws null firsts p n 0 old old
-feeding_begins {null = null} {firsts = firsts} {old = old} size s =
+pub feeding_begins : {ws : List ℕ} {null : ℕ} {firsts : List ℕ} {p i : ℕ} {old : List ℕ} → i ≡ length (right_side ws p)
+    → SoundFollows ws old → Feeding ws null firsts p i 0 old old
+feeding_begins {ws} {null} {firsts} {p} {old = old} e s =
     record {
-      walked = walk_begins null firsts 0 size;
+      walked = walk_begins null firsts 0 e;
       sound = s;
       kept = λ j t m. m;
-      fed = λ t. subst (Fed null firsts 0 t old) (sym (right_none size)) Fed.nothing;
+      fed = λ t. subst (Fed null firsts 0 t old) (sym (drop_over (right_side ws p) (omega arith))) Fed.nothing;
     }
 
 module _
-    {ws places : List ℕ}
+    {ws : List ℕ}
     {null : ℕ}
-    {firsts old : List ℕ}
-    (need : Needed ws places null firsts old)
+    {firsts : List ℕ}
+    (asked : Asked ws null firsts)
+    (exact : FirstsOf ws firsts)
+    (reached : Reached ws)
     {p : ℕ}
     (h : p < rule_count ws) where
   -- The left side is reachable.
   left_reached : Reachable (RuleOf ws) start_over_end (left_side ws p)
   unfolding left_side
-  left_reached = with_end (RuleOf ws) (need.reached (word ws (rule_place ws p)) (need.asked.ready.shaped.rules p h).left)
+  left_reached = with_end (RuleOf ws) (reached (word ws (rule_place ws p)) (asked.shaped.rules p h).left)
 
   -- What the walk finds behind a symbol does follow it.
-  behind_sound : {i x t : ℕ} → 0 < i → i ≤ length (right_side ws p) → SymbolAt ws p (i - 1) x → Terminal t
-      → Opens null firsts 0 t (drop i (right_side ws p)) → Follow (RuleOf ws) start_over_end x t
-  behind_sound {i} {x} {t} l b at token o =
+  behind_sound : {j x t : ℕ} → At (right_side ws p) j x → Terminal t → Opens null firsts 0 t (drop (j + 1) (right_side ws p))
+      → Follow (RuleOf ws) start_over_end x t
+  behind_sound {j} {x} {t} at token o =
       ⊎_elim
-      (λ g. follow_inside (RuleOf ws) start_over_end (rule_at ws p h) left_reached (take (i - 1) β) (drop i β) x parts g)
+      (λ g. follow_inside (RuleOf ws) start_over_end (rule_at ws p h) left_reached (take j β) (drop (j + 1) β) x parts g)
       (λ g. absurd (empty_none t g.1))
-      ((opens_exact ws need.asked.ready.shaped null need.asked.nulls firsts need.exact t token symbols).0 o)
+      ((opens_exact ws asked.shaped null asked.nulls firsts exact t token symbols).0 o)
     where
       β : List ℕ
       β = right_side ws p
 
-      parts : β ≡ take (i - 1) β ++ (x ∷ drop i β)
-      parts = sym (take-append-drop (i - 1) β) ∙ ap (λ w. take (i - 1) β ++ w) (right_from l b at)
+      parts : β ≡ take j β ++ (x ∷ drop (j + 1) β)
+      parts = sym (take-append-drop j β) ∙ ap (λ w. take j β ++ w) (at_front at)
 
-      symbols : All (RuleSymbol (terminal_count ws) (nonterminal_count ws)) (drop i β)
+      symbols : All (RuleSymbol (terminal_count ws) (nonterminal_count ws)) (drop (j + 1) β)
       symbols =
-          all_rest (take i β)
-          (subst (All (RuleSymbol (terminal_count ws) (nonterminal_count ws))) (sym (take-append-drop i β))
-          (right_symbols ws need.asked.ready.shaped p h))
+          all_rest (take (j + 1) β)
+          (subst (All (RuleSymbol (terminal_count ws) (nonterminal_count ws))) (sym (take-append-drop (j + 1) β))
+          (right_symbols ws asked.shaped p h))
 
-  pub feeding_goes : {i set x r : ℕ} {mid new : List ℕ} → Feeding ws null firsts p i set old mid → 0 < i → SymbolAt ws p (i - 1) x
-      → AddedBehind mid x set new → FirstWith null firsts set (x ∷ []) r → Feeding ws null firsts p (i - 1) r old new
-  feeding_goes {i} {set} {x} {new = new} w l at add f =
+  pub feeding_goes : {j set x r : ℕ} {old mid new : List ℕ} → Feeding ws null firsts p (j + 1) set old mid → At (right_side ws p) j x
+      → AddedBehind mid x set new → FirstWith null firsts set (x ∷ []) r → Feeding ws null firsts p j r old new
+  feeding_goes {j} {set} {x} {new = new} w at add f =
       record {
-        walked = walk_goes w.walked l at f;
-        sound = behind_follows add w.sound
-            (λ t token m. behind_sound l w.walked.inside at token ((w.walked.found.exact t).0 m));
+        walked = walk_goes w.walked at f;
+        sound = behind_follows add w.sound (λ t token m. behind_sound at token ((w.walked.found.exact t).0 m));
         kept = λ j t m. behind_kept add j t (w.kept j t m);
         fed = λ t.
-            subst (Fed null firsts 0 t new) (sym (right_from l w.walked.inside at))
+            subst (Fed null firsts 0 t new) (sym (at_front at))
             (Fed.also (λ high o. behind_holds add high t ((w.walked.found.exact t).1 o)) (fed_kept (behind_kept add) (w.fed t)));
       }
 

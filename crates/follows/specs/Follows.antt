@@ -13,7 +13,6 @@ use Rattle.sets.specs.Bits.{member}
 use Rattle.grammar.specs.Theory.Firsts.{Fades, Starts, all_empty, begins_first, empty_closed, first_closed, first_self, terminal_first}
 use Rattle.firsts.specs.Opens.{Opens}
 use Rattle.firsts.specs.Masks.{FirstsOf, opens_exact}
-use Rattle.firsts.specs.Asked.{Asked}
 
 -- The table holds FOLLOW of each nonterminal.
 pub record FollowsOf (ws follows : List ℕ) : Type 0 where
@@ -23,13 +22,6 @@ pub record FollowsOf (ws follows : List ℕ) : Type 0 where
 -- Every nonterminal is reachable from START.
 abbrev pub Reached : List ℕ → Type 0
 Reached ws = (k : ℕ) → k < nonterminal_count ws → Reachable (RuleOf ws) (START ∷ []) (64 + k)
-
--- What the search for FOLLOW asks: masks that are exact, every nonterminal reachable, and a table of 64 sets.
-pub record Needed (ws places : List ℕ) (null : ℕ) (firsts follows : List ℕ) : Type 0 where
-  pub asked : Asked ws places null firsts
-  pub exact : FirstsOf ws firsts
-  pub reached : Reached ws
-  pub size : length follows ≡ 64
 
 -- What holds of the table before and after each rule: it has 64 sets, every token in a set is in FOLLOW of its nonterminal,
 -- and END is in that of START.

@@ -10,13 +10,14 @@ use Rattle.grammar.specs.Theory.Closed.{all_rest}
 use Rattle.grammar.specs.Theory.Firsts.{Fades, all_empty}
 use Rattle.grammar.specs.Theory.Follows.{follow_last}
 use Rattle.grammar.specs.Theory.RightSides.{right_symbols, rule_at}
-use Rattle.shape.specs.Accessors.{LeftOf, SizeOf, SymbolAt, right_none, right_from}
+use Rattle.shape.specs.Accessors.{LeftOf}
 use Rattle.base.specs.Telling.{Tells, told, tells_unique}
 use Rattle.sets.specs.Bits.{member}
 use Rattle.sets.specs.Operations.{with}
 use Rattle.sets.specs.Laws.{empty_none, with_same, with_keeps, with_cases}
 use Rattle.growth.specs.Closing.{Noted}
 use Rattle.firsts.specs.Masks.{number_symbol, null_says}
+use Rattle.firsts.specs.Walk.{At, at_front, drop_over}
 
 -- X can be empty, by the mask.
 abbrev pub NullBy : ℕ → ℕ → Type 0
@@ -100,9 +101,9 @@ pub data NotedLast (old x : ℕ) (ends : Bool) (new : ℕ) : Type 0 where
   terminal : x < 64 → new ≡ old → NotedLast old x ends new
   nonterminal : 64 ≤ x → Noted old (x - 64) ends new → NotedLast old x ends new
 
-pub lasting_begins : {ws : List ℕ} {p n : ℕ} (null : ℕ) → SizeOf ws p n → Lasting null (drop n (right_side ws p)) 0 true
-lasting_begins null size =
-    subst (λ α. Lasting null α 0 true) (sym (right_none size)) (record { lasts = lasts_none null; empties = told All.nothing })
+pub lasting_begins : (α : List ℕ) {null i : ℕ} → i ≡ length α → Lasting null (drop i α) 0 true
+lasting_begins α {null} e =
+    subst (λ β. Lasting null β 0 true) (sym (drop_over α (omega arith))) (record { lasts = lasts_none null; empties = told All.nothing })
 
 lasting_more : {null x set more : ℕ} {ends next : Bool} {α : List ℕ} → Lasting null α set ends → NotedLast set x ends more
     → Tells (NullBy null x × (ends ≡ true)) next → Lasting null (x ∷ α) more next
@@ -123,11 +124,10 @@ lasting_more {null} {x} {set} {more} {ends} {next} {α} w noted tells =
     lasts (NotedLast.terminal low e) = subst (LastsOf null (x ∷ α)) (sym e) (lasts_token low w.lasts)
     lasts (NotedLast.nonterminal high n) = name ends refl high n
 
-pub lasting_goes : {ws : List ℕ} {null p i x set more : ℕ} {ends next : Bool} → Lasting null (drop i (right_side ws p)) set ends → 0 < i
-    → i ≤ length (right_side ws p) → SymbolAt ws p (i - 1) x → NotedLast set x ends more → Tells (NullBy null x × (ends ≡ true)) next
-    → Lasting null (drop (i - 1) (right_side ws p)) more next
-lasting_goes {null = null} {more = more} {next = next} w l inside at noted tells =
-    subst (λ α. Lasting null α more next) (sym (right_from l inside at)) (lasting_more w noted tells)
+pub lasting_goes : {α : List ℕ} {null j x set more : ℕ} {ends next : Bool} → Lasting null (drop (j + 1) α) set ends → At α j x
+    → NotedLast set x ends more → Tells (NullBy null x × (ends ≡ true)) next → Lasting null (drop j α) more next
+lasting_goes {null = null} {more = more} {next = next} w at noted tells =
+    subst (λ β. Lasting null β more next) (sym (at_front at)) (lasting_more w noted tells)
 
 pub lasting_ends : (α : List ℕ) {null i set : ℕ} {ends : Bool} → Lasting null (drop i α) set ends → i ≡ 0 → LastsOf null α set
 lasting_ends α {null} {set = set} w e = subst (λ n. LastsOf null (drop n α) set) e w.lasts

@@ -7,77 +7,64 @@ ghost use Rattle.std.specs.Prelude.{◌≡◌, true, ◌<◌, length};
 ghost use Rattle.grammar.specs.Words.{rule_count};
 ghost use Rattle.base.specs.Telling.{Tells};
 ghost use Rattle.base.specs.Blank.{Blank};
-ghost use Rattle.follows.specs.Follows.{FollowsOf, Needed, SoundFollows};
+ghost use Rattle.firsts.specs.Exact.{Exact};
+ghost use Rattle.follows.specs.Follows.{FollowsOf, Reached, SoundFollows};
 ghost use Rattle.follows.specs.Feeding.{AddedBehind};
 ghost use Rattle.follows.specs.Lasts.{NotedLast, NullBy};
 ghost use Rattle.follows.specs.Begun.{AllFed, Begun, RuleFed};
 
+use firsts::Masks;
+
 // FOLLOW of each nonterminal: what begins the rest behind it in a right side, and FOLLOW of the left side where it can stand last there.
 // Left sides mostly have lower numbers than what they are made of, so sets are passed on from the lowest up.
-pub fn follows(words: &[u16], places: &[u16], null: u64, firsts: &[u64], out: &mut [u64])
-    requires needed { Needed words.now places.now null firsts.now out.old }
+pub fn follows(masks: &Masks<'_>, out: &mut [u64])
+    requires reached { Reached masks.now.ws }
     requires blank { Blank 64 out.old }
-    ensures { FollowsOf words.now out.new }
+    ensures { FollowsOf masks.now.ws out.new }
 {
     let mut feeds = [0u64; 64];
     growth::add_to(out, 0, sets::with(0, 0));
-    let list = begin(words, places, null, firsts, &mut feeds, out);
-    growth::close(&feeds, list, false, out);
+    let list = begin(masks, &mut feeds, out);
+    growth::close(&feeds, list, sets::least, out);
 }
 
 // Every rule once: its nonterminals get what begins the rest behind them, and its left side feeds those that can stand last. Gives the
 // list of the left sides that feed one.
-fn begin(
-    words: &[u16],
-    places: &[u16],
-    null: u64,
-    firsts: &[u64],
-    feeds: &mut [u64],
-    out: &mut [u64],
-) -> u64
-    requires needed { Needed words.now places.now null firsts.now out.old }
-    requires begun { Begun words.now feeds.old out.old 0 }
-    ensures { AllFed words.now null firsts.now feeds.new out.new result }
+fn begin(masks: &Masks<'_>, feeds: &mut [u64], out: &mut [u64]) -> u64
+    requires reached { Reached masks.now.ws }
+    requires begun { Begun masks.now.ws feeds.old out.old 0 }
+    ensures fed { AllFed masks.now.ws masks.now.null masks.now.firsts feeds.new out.new result }
+    ensures exact { Exact masks.now }
 {
-    let count = shape::rule_count(words);
+    let rules = masks.rules();
+    let count = rules.rule_count();
     let mut list = 0;
-    let mut p = 0;
-    while p < count {
-        let last = feed_rule(words, places, null, firsts, p, out);
-        let k = shape::left_of(words, places, p);
-        let more = growth::add_to(feeds, k as usize, last);
+    for p in 0..count {
+        let last = feed_rule(masks, p, out);
+        let k = rules.left_of(p);
+        let more = growth::add_to(feeds, usize::from(k), last);
         list = growth::note(list, k, more);
-        p += 1;
     }
     list
 }
 
 // Adds to each nonterminal of rule p's right side what begins the rest behind it there, and gives those that can stand last. The right
 // side is walked from its end, with what begins the rest so far, and whether all of the rest can be empty.
-fn feed_rule(
-    words: &[u16],
-    places: &[u16],
-    null: u64,
-    firsts: &[u64],
-    p: usize,
-    out: &mut [u64],
-) -> u64
-    requires needed { Needed words.now places.now null firsts.now out.old }
-    requires p_bound { p < rule_count words.now }
-    requires sound_follows { SoundFollows words.now out.old }
-    ensures { RuleFed words.now null firsts.now p out.old out.new result }
+fn feed_rule(masks: &Masks<'_>, p: usize, out: &mut [u64]) -> u64
+    requires reached { Reached masks.now.ws }
+    requires p_bound { p < rule_count masks.now.ws }
+    requires sound_follows { SoundFollows masks.now.ws out.old }
+    ensures { RuleFed masks.now.ws masks.now.null masks.now.firsts p out.old out.new result }
 {
+    let right = masks.rules().right_side(p);
     let mut behind = 0;
     let mut last = 0;
     let mut ends = true;
-    let mut i = shape::size_of(words, places, p);
-    while i > 0 {
-        i -= 1;
-        let x = shape::symbol_at(words, places, p, i);
+    for &x in right.iter().rev() {
         add_behind(out, x, behind);
         last = last_with(last, x, ends);
-        ends = empty_from(x, null, ends);
-        behind = firsts::pass(x, null, firsts, behind);
+        ends = empty_from(masks, x, ends);
+        behind = masks.pass(x, behind);
     }
     last
 }
@@ -91,7 +78,7 @@ fn add_behind(out: &mut [u64], x: u16, mask: u64)
     if x < 64 {
         return;
     }
-    growth::add_to(out, (x - 64) as usize, mask);
+    growth::add_to(out, usize::from(x - 64), mask);
 }
 
 // The set, and x where it is a nonterminal that can stand last: what is behind it can be empty.
@@ -106,15 +93,9 @@ fn last_with(last: u64, x: u16, ends: bool) -> u64
 }
 
 // Whether all can be empty from x on, by whether all behind it can.
-fn empty_from(x: u16, null: u64, behind: bool) -> bool
+fn empty_from(masks: &Masks<'_>, x: u16, behind: bool) -> bool
     requires { x < 128 }
-    ensures { Tells (NullBy null x × (behind ≡ true)) result }
+    ensures { Tells (NullBy masks.now.null x × (behind ≡ true)) result }
 {
-    if x < 64 {
-        return false;
-    }
-    if sets::has(null, x - 64) {
-        return behind;
-    }
-    false
+    x >= 64 && masks.empty(x - 64) && behind
 }

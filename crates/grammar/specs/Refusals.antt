@@ -1,6 +1,6 @@
 -- Document 01, "Refusal numbers": the numbers, and "the lowest applicable number .. is given, each tested over the whole
 -- input before the next". Where document 02 gives a refusal another place than its number's, its list of conditions has it there.
-use Rattle.std.specs.Prelude.{ℕ, ◌≡◌, List, [], ◌∷◌, ◌⊎◌}
+use Rattle.std.specs.Prelude.{ℕ, ◌≡◌, List, [], ◌∷◌, ◌⊎◌, Result, Ok, Err}
 use Rattle.std.proofs.Math.Option.{Option, none, some}
 use Rattle.grammar.specs.declared.Refusal.{Refusal}
 use Rattle.grammar.specs.declared.Refusal.TheVariants.{
@@ -47,6 +47,16 @@ number_of ShortDesk = 23
 pub data Outcome (A : Type 0) : Type 0 where
   given : A → Outcome A
   refused : Refusal → Outcome A
+
+-- What an answer of the code stands for.
+abbrev pub outcome_of : {A : Type 0} → Result A Refusal → Outcome A
+outcome_of (Ok a) = given a
+outcome_of (Err r) = refused r
+
+-- What an answer of the code that gives nothing but a verdict stands for.
+abbrev pub refusal_of : {A : Type 0} → Result A Refusal → Option Refusal
+refusal_of (Ok a) = none
+refusal_of (Err r) = some r
 
 -- A condition, beside the refusal that is given where it does not hold.
 pub record Condition : Type 1 where

@@ -1,14 +1,14 @@
 -- A list of sets to one of which a mask was added.
-use Rattle.std.specs.Prelude.{ℕ, ◌^◌, ◌<◌, ◌≡◌, refl, Bool, true, false, not, List, ◌⊎◌, length, get_or, set, eqb}
+use Rattle.std.specs.Prelude.{ℕ, ◌^◌, ◌<◌, ◌≡◌, refl, Bool, true, false, not, List, ◌⊎◌, length, get_or, set, eqb, sum}
 use Rattle.std.proofs.Common.{sym, ap, ◌∙◌, subst, true≢false, inl, inr, ⊎_elim, arith, length-set, ext_get_or, get_or-set_same, get_or-set_other, eqb-true}
 use Rattle.std.proofs.lemmas.Bool.{false≢true, eqb-false}
 use Rattle.std.proofs.lemmas.List.{set-get_or}
+use Rattle.std.proofs.lemmas.List.Sums.{sum_by-set}
 use Rattle.base.specs.Choices.{same_or}
 use Rattle.sets.specs.Bits.{member}
 use Rattle.sets.specs.Operations.{union}
 use Rattle.sets.specs.Laws.{empty_none, union_left, union_right, union_cases, union_grows, union_unchanged, same_members}
 use Rattle.base.specs.Blank.{Blank}
-use Rattle.growth.specs.Sums.{sum, sum_set}
 
 -- Nothing is lost.
 abbrev pub Kept : List ℕ → List ℕ → Type 0
@@ -63,7 +63,7 @@ module _ (old : List ℕ) (k mask : ℕ) (inside : k < length old) where
         same = length-set old k (union (get_or old k 0) mask);
         keeps = λ j t m. keeps_all j t (same_or j k) m;
         kept = λ q. absurd (true≢false q);
-        raised = λ q. omega (arith, n, sum_set old k (union (get_or old k 0) mask) inside, union_grows (get_or old k 0) mask);
+        raised = λ q. omega (arith, n, sum_by-set (λ s. s) old k (union (get_or old k 0) mask) 0 inside, union_grows (get_or old k 0) mask);
         holds = λ t m. subst (λ s. member s t ≡ true) (sym (changed_at k refl)) (union_right (get_or old k 0) mask t m);
         source = λ j t m. comes_from j t (same_or j k) m;
       }

@@ -1,19 +1,18 @@
 -- Sets that are passed on along a list until nothing changes. `feeds` has for each set the numbers of the sets that are to hold it too;
 -- the list has the numbers of the sets that may have to be passed on, as the bits of a word: each stands there at most once.
---     end_high, end_low, end_below, end_held         which one is taken off the list
 --     feed_none, feed_begins, feed_goes, feed_ends   one set is passed on to those that it feeds
 --     close_begins, close_goes, close_ends           the list: what is not on it is passed on already
 --     close_less                                     it ends: a set that goes on it has grown
 --     closing_has                                    what is so of all that is there at first and is passed on is so of all that comes
 --     closing_one, noted_one                         the answer is one
-use Rattle.std.specs.Prelude.{ℕ, ◌+◌, ◌-◌, ◌*◌, ◌^◌, ◌≤◌, ◌<◌, ◌≡◌, refl, Bool, true, false, List, ◌⊎◌, ◌↔◌, length, get_or}
-use Rattle.std.proofs.Common.{sym, ap, ◌∙◌, subst, true≢false, inl, inr, ⊎_elim, arith, ext_get_or}
+use Rattle.std.specs.Prelude.{ℕ, ◌+◌, ◌-◌, ◌*◌, ◌^◌, ◌≤◌, ◌<◌, ◌≡◌, refl, Bool, true, false, List, ◌⊎◌, ◌↔◌, length, get_or, sum}
+use Rattle.std.proofs.Common.{sym, ap, ◌∙◌, subst, inl, inr, ⊎_elim, arith, ext_get_or}
 use Rattle.base.specs.Choices.{same_or, below_or}
 use Rattle.sets.specs.Bits.{member}
-use Rattle.sets.specs.Operations.{with, union, without, Greatest, Least}
+use Rattle.sets.specs.Operations.{with, union, without, Least}
 use Rattle.sets.specs.Laws.{empty_none, with_same, with_keeps, union_left, union_right, union_none, same_members}
 use Rattle.sets.specs.Taking.{without_keeps, without_was, without_less}
-use Rattle.growth.specs.Sums.{sum, first_less, second_less}
+use Rattle.growth.specs.Sums.{first_less, second_less}
 use Rattle.growth.specs.Added.{Added}
 
 -- Token t comes to set k: it is there at first, or it comes to a set that feeds k.
@@ -50,25 +49,11 @@ pub noted_one : {s i r q : ℕ} (yes : Bool) → Noted s i yes r → Noted s i y
 noted_one true a b = a.noted refl ∙ sym (b.noted refl)
 noted_one false a b = a.same refl ∙ sym (b.same refl)
 
--- The number i is at one end of the set.
-pub record EndOf (s : ℕ) (high : Bool) (i : ℕ) : Type 0 where
-  pub greatest : high ≡ true → Greatest s i
-  pub least : high ≡ false → Least s i
-
-pub end_high : {s i : ℕ} {high : Bool} → high ≡ true → Greatest s i → EndOf s high i
-end_high e g = record { greatest = λ _. g; least = λ f. absurd (true≢false (sym e ∙ f)) }
-
-pub end_low : {s i : ℕ} {high : Bool} → high ≡ false → Least s i → EndOf s high i
-end_low e l = record { greatest = λ f. absurd (true≢false (sym f ∙ e)); least = λ _. l }
-
--- So it is one of the set's.
-pub end_below : {s i : ℕ} (high : Bool) → EndOf s high i → i < 64
-end_below true e = (e.greatest refl).below
-end_below false e = (e.least refl).below
-
-pub end_held : {s i : ℕ} (high : Bool) → EndOf s high i → member s i ≡ true
-end_held true e = (e.greatest refl).held
-end_held false e = (e.least refl).held
+-- Whoever takes a number of a set that has some takes one of the set's.
+pub record TakesOne (may : ℕ → Type 0) (gives : ℕ → ℕ → Type 0) : Type 0 where
+  pub asks : (s : ℕ) → 0 < s → s < 2 ^ 64 → may s
+  pub below : (s i : ℕ) → 0 < s → s < 2 ^ 64 → gives s i → i < 64
+  pub held : (s i : ℕ) → 0 < s → s < 2 ^ 64 → gives s i → member s i ≡ true
 
 -- ---- One set is passed on
 
@@ -194,9 +179,9 @@ close_begins feeds begun list size listed =
       passed = λ k n j m. absurd (n (listed k j m));
     }
 
-pub close_goes : {feeds begun old new : List ℕ} {list k fed mask grown : ℕ} (high : Bool) → Opened feeds begun old list
-    → EndOf list high k → fed ≡ get_or feeds k 0 → mask ≡ get_or old k 0 → Fed fed mask old new grown → Opened feeds begun new (union (without list k) grown)
-close_goes {feeds} {begun} {old} {new} {list} {k} {fed} {mask} {grown} high o at is_fed is_mask f =
+pub close_goes : (k : ℕ) {feeds begun old new : List ℕ} {list fed mask grown : ℕ} → Opened feeds begun old list
+    → member list k ≡ true → fed ≡ get_or feeds k 0 → mask ≡ get_or old k 0 → Fed fed mask old new grown → Opened feeds begun new (union (without list k) grown)
+close_goes k {feeds} {begun} {old} {new} {list} {fed} {mask} {grown} o held is_fed is_mask f =
     record {
       size = f.same ∙ o.size;
       sound = λ i t m.
@@ -212,7 +197,7 @@ close_goes {feeds} {begun} {old} {new} {list} {k} {fed} {mask} {grown} high o at
           f.holds j (subst (λ s. member s j ≡ true) (sym is_fed) (subst (λ a. member (get_or feeds a 0) j ≡ true) (sym e) m)) (empty_none j) t
           (subst (λ s. member s t ≡ true) (sym is_mask) (subst (λ a. member (get_or old a 0) t ≡ true) (sym e) was)))
           (λ other.
-          f.keeps j t (o.passed i (λ g. n (union_left (without list k) grown i (without_keeps list k i (end_held high at) other g))) j m t was))
+          f.keeps j t (o.passed i (λ g. n (union_left (without list k) grown i (without_keeps list k i held other g))) j m t was))
           (same_or k i);
     }
 
@@ -232,14 +217,14 @@ close_ends {feeds} {begun} {sets} {list} o e =
 abbrev pub left : List ℕ → ℕ → ℕ
 left sets list = (64 * 2 ^ 64 - sum sets) * 2 ^ 64 + list
 
-pub close_less : {list k fed mask grown : ℕ} {old new : List ℕ} (high : Bool) → EndOf list high k → Fed fed mask old new grown → sum new ≤ 64 * 2 ^ 64
+pub close_less : (list k : ℕ) {fed mask grown : ℕ} {old new : List ℕ} → member list k ≡ true → Fed fed mask old new grown → sum new ≤ 64 * 2 ^ 64
     → union (without list k) grown < 2 ^ 64 → left new (union (without list k) grown) < left old list
-close_less {list} {k} {grown = grown} {old} {new} high at f limit small =
+close_less list k {grown = grown} {old} {new} held f limit small =
     ⊎_elim
     (λ none.
     let z : grown ≡ 0 = omega arith in
     let rest = ap (λ g. union (without list k) g) z ∙ union_none (without list k) in
-    let less = without_less list k (end_held high at) in
+    let less = without_less list k held in
     second_less (2 ^ 64) (64 * 2 ^ 64 - sum old) (64 * 2 ^ 64 - sum new) list (union (without list k) grown)
     (ap (λ l. 64 * 2 ^ 64 - sum l) (f.grew.level z)) (subst (λ n. n < list) (sym rest) less))
     (λ some.

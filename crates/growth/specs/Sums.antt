@@ -1,28 +1,17 @@
 -- The sum of a list of numbers, by which a table is ranked: a set that gains a member is a larger number, so the sum of sets
 -- rises. Then what is known of a list that is filled from the front.
-use Rattle.std.specs.Prelude.{ℕ, zero, suc, ◌+◌, ◌*◌, ◌^◌, ◌≤◌, ◌<◌, ◌≡◌, List, [], ◌∷◌, length, get_or, set}
+use Rattle.std.specs.Prelude.{ℕ, suc, ◌+◌, ◌*◌, ◌^◌, ◌≤◌, ◌<◌, ◌≡◌, List, [], ◌∷◌, length, get_or, set, sum}
 use Rattle.std.proofs.Common.{sym, ap, subst, arith, below_more, suc-mul, mul-le-mul_right, get_or-set_same, get_or-set_other, Fits}
+use Rattle.std.proofs.lemmas.List.Sums.{sum_by-cons}
 use Rattle.std.specs.Int.{w64}
-
-unfoldable pub sum : List ℕ → ℕ
-sum [] = 0
-sum (x ∷ l) = x + sum l
-
--- One element set.
-pub sum_set : (l : List ℕ) (i v : ℕ) → i < length l → sum (set l i v) + get_or l i 0 ≡ sum l + v
-unfolding sum
-sum_set [] i v h = absurd (omega arith)
-sum_set (x ∷ l) zero v h = omega arith
-sum_set (x ∷ l) (suc i) v h = omega (arith, sum_set l i v (omega arith))
 
 -- Where no element is above b, the sum is at most b for each.
 pub sum_bound : (l : List ℕ) (b : ℕ) → ((i : ℕ) → get_or l i 0 ≤ b) → sum l ≤ length l * b
-unfolding sum
 sum_bound [] b f = omega arith
 sum_bound (x ∷ l) b f =
     let rest = sum_bound l b (λ i. f (suc i)) in
     let head = f 0 in
-    omega (arith, suc-mul (length l) b)
+    omega (arith, sum_by-cons (λ y. y) x l, suc-mul (length l) b)
 
 -- A list that is filled from the front, one element a turn: what is known of each element in front of p.
 pub filled_more : (P : ℕ → ℕ → Type 0) (l : List ℕ) (p v : ℕ) → p < length l → ((q : ℕ) → q < p → P q (get_or l q 0)) → P p v

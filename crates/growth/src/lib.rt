@@ -5,7 +5,7 @@
 ghost use Rattle.std.specs.Prelude.{◌≡◌, ◌<◌, length};
 ghost use Rattle.growth.specs.Added.{Added};
 ghost use Rattle.growth.specs.Along.{Reached, Spent};
-ghost use Rattle.growth.specs.Closing.{Closing, EndOf, Fed, Listed, Noted};
+ghost use Rattle.growth.specs.Closing.{Closing, Fed, Listed, Noted, TakesOne};
 
 // Adds the members of the mask to set k, and answers whether one of them was not there. The set is written in any case: most callers do
 // not ask, and then nothing is compared.
@@ -20,31 +20,22 @@ pub fn add_to(all: &mut [u64], k: usize, mask: u64) -> bool
 }
 
 // Passes each set on to the sets that it feeds, until nothing changes. The list has the sets that may have to be passed on: at first all
-// that feed one, then those that have grown. It is a word of bits, so that none stands there twice. `high` says that its greatest number is
-// taken first, else its least: that changes how often a set is passed on, and not what comes of it.
-pub fn close(feeds: &[u64], list: u64, high: bool, sets: &mut [u64])
-    requires feeds_len { length feeds.now ≡ 64 }
+// that feed one, then those that have grown. It is a word of bits, so that none stands there twice. `take` says which of its numbers is
+// next: that changes how often a set is passed on, and not what comes of it.
+pub fn close<F: Fn(u64) -> u16>(feeds: &[u64; 64], list: u64, take: F, sets: &mut [u64])
     requires sets_len { length sets.old ≡ 64 }
     requires listed { Listed feeds.now list }
+    requires takes { TakesOne (F.pre take) (F.post take) }
     ensures { Closing feeds.now sets.old sets.new }
 {
     let mut waiting = list;
+    // Kept as a loop: the list changes on the way.
     while 0 < waiting {
-        let k = end_of(waiting, high);
-        let grown = feed(feeds[k as usize], sets[k as usize], sets);
+        let k = take(waiting);
+        let at = usize::from(k);
+        let grown = feed(feeds[at], sets[at], sets);
         waiting = sets::union(sets::without(waiting, k), grown);
     }
-}
-
-// The greatest or the least number of a set that has some.
-fn end_of(s: u64, high: bool) -> u16
-    requires { 0 < s }
-    ensures { EndOf s high result }
-{
-    if high {
-        return sets::greatest(s);
-    }
-    sets::least(s)
 }
 
 // Adds the members of the mask to each of the sets in `fed`, and gives those that have grown. Where it has none there is nothing to do.
@@ -57,9 +48,10 @@ fn feed(fed: u64, mask: u64, sets: &mut [u64]) -> u64
     }
     let mut rest = fed;
     let mut grown = 0;
+    // Kept as a loop: the bits of a word are taken off one by one, for which the library has no iterator.
     while 0 < rest {
         let j = sets::least(rest);
-        let more = add_to(sets, j as usize, mask);
+        let more = add_to(sets, usize::from(j), mask);
         grown = note(grown, j, more);
         rest = sets::without(rest, j);
     }
@@ -76,21 +68,22 @@ pub fn note(s: u64, i: u16, yes: bool) -> u64
 
 // The numbers that 0 comes to, where from k there is a step to each of `feeds[k]`. Those that are reached and not done are the list. What was
 // stepped on from is emptied: where all are reached, the table holds nothing then and serves the next.
-pub fn reach(feeds: &mut [u64]) -> u64
-    requires { length feeds.old ≡ 64 }
+pub fn reach(feeds: &mut [u64; 64]) -> u64
     ensures reached { Reached feeds.old result }
     ensures spent { Spent feeds.old result feeds.new }
 {
     let mut reached = sets::with(0, 0);
     let mut done: u64 = 0;
+    // Kept as a loop: what is reached grows on the way.
     loop {
         let rest = sets::beyond(reached, done);
         if rest == 0 {
             return reached;
         }
         let k = sets::least(rest);
-        reached = sets::union(reached, feeds[k as usize]);
-        feeds[k as usize] = 0;
+        let at = usize::from(k);
+        reached = sets::union(reached, feeds[at]);
+        feeds[at] = 0;
         done = sets::with(done, k);
     }
 }

@@ -1,46 +1,20 @@
-// Parts of an input, as standard input, and lines for standard error. A read that fails is told apart from the end, so that no program
-// takes one for the other.
+// Parts of an input, as standard input. A read that fails is told apart from the end, so that no program takes one for the other.
 #![tactic(auto)]
 
-ghost use Rattle.std.specs.Prelude.{◌≡◌, length};
-ghost use Rattle.input.specs.Parts.{PartFits, PartTaken, part_of};
+ghost use Rattle.input.specs.Parts.{PartFits, PartTaken};
 
+use std::io;
 use std::io::Read;
 
-// What a read came to. `part_of` of specs/Parts.antt says which is which.
-#[derive(Clone, Copy)]
-pub enum Part {
-    Bytes(usize),
-    End,
-    Failed,
-}
-
-// Reads a part of the reader's input to the front of the space. Each error is a read that failed, one that a signal interrupts too.
-pub fn read_part<R: Read>(reader: &mut R, space: &mut [u8]) -> Part
-    ensures fits { PartFits space.new result }
-    ensures taken { PartTaken (R.remaining reader.old) (R.remaining reader.new) space.new result }
+// Reads a part of the reader's input to the front of the space; none at the end of the input. Each error is a read that failed, one that a
+// signal interrupts too.
+pub fn read_part<'a, R: Read>(reader: &mut R, space: &'a mut [u8]) -> io::Result<Option<&'a [u8]>>
+    ensures fits { PartFits space.old result }
+    ensures taken { PartTaken (R.remaining reader.old) (R.remaining reader.new) space.old result }
 {
-    let got = match reader.read(space) {
-        Ok(count) => count as isize,
-        Err(_) => -1,
-    };
-    part_of(got, space)
-}
-
-// What a read came to that answered `got`.
-pub fn part_of(got: isize, space: &[u8]) -> Part
-    ensures { result ≡ part_of got (length space.now) }
-{
-    if got < 0 {
-        return Part::Failed;
+    match reader.read(space) {
+        Ok(0) => Ok(None),
+        Ok(count) => Ok(Some(&space[..count])),
+        Err(error) => Err(error),
     }
-    if got == 0 {
-        return Part::End;
-    }
-    Part::Bytes(io::count(got, space))
-}
-
-// Writes a line to standard error. Where that fails too, nothing is left to be done.
-pub fn tell(line: &[u8]) {
-    io::write_all(2, line);
 }

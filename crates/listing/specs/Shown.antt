@@ -1,5 +1,5 @@
 -- Lines of an input, shown in a buffer: the listing, or what else an input gets; and what an input that was taken apart leads to.
-use Rattle.std.specs.Prelude.{ℕ, ◌+◌, ◌*◌, ◌/◌, ◌≤◌, ◌<◌, ◌≡◌, refl, List, [], ◌++◌, length, take}
+use Rattle.std.specs.Prelude.{ℕ, ◌+◌, ◌*◌, ◌/◌, ◌≤◌, ◌<◌, ◌≡◌, refl, List, [], ◌++◌, length, take, Result, Ok, Err}
 use Rattle.std.proofs.Math.Decide.{dec_lt}
 use Rattle.std.proofs.Math.Nat.{min-le_left}
 use Rattle.std.proofs.Common.{arith, sym, ap, subst, ◌∙◌, append-nil, length-take, take_at, length-take-le}
@@ -8,8 +8,7 @@ use Rattle.grammar.specs.File.{FileRead}
 use Rattle.grammar.specs.Refusals.{given, refused, number_of}
 use Rattle.grammar.specs.Listing.{Printed, file_of, refused_line, tokens_of, ticks_of}
 use Rattle.grammar.specs.declared.Refusal.{Refusal}
-use Rattle.listing.specs.declared.input.Taken.{Taken}
-use Rattle.listing.specs.declared.input.Taken.TheVariants.{Apart, Refused}
+use Rattle.listing.specs.declared.input.Parts.{Parts}
 use Rattle.listing.specs.Answer.{Wrote, TakenApart}
 use Rattle.listing.specs.Sizes.{refused_length, wrote_front, wrote_part}
 use Rattle.listing.specs.Enough.{printed_front}
@@ -80,26 +79,26 @@ module _ (Lines : List ℕ → List ℕ → Type 0) where
 
 module _ {input old_words old_tokens old_ticks words tokens ticks : List ℕ} where
   -- The answer is the one told.
-  pub apart_told : {a b : Taken} → TakenApart input old_words old_tokens old_ticks a words tokens ticks → a ≡ b
+  pub apart_told : {a b : Result Parts Refusal} → TakenApart input old_words old_tokens old_ticks a words tokens ticks → a ≡ b
       → TakenApart input old_words old_tokens old_ticks b words tokens ticks
-  apart_told p e = subst (λ (a : Taken). TakenApart input old_words old_tokens old_ticks a words tokens ticks) e p
+  apart_told p e = subst (λ (a : Result Parts Refusal). TakenApart input old_words old_tokens old_ticks a words tokens ticks) e p
 
   -- What was written stands in the buffers.
-  pub apart_parts : {n k t : ℕ} → TakenApart input old_words old_tokens old_ticks (Apart n k t) words tokens ticks
-      → (n ≤ length words) × ((k ≤ length tokens) × (t ≤ length ticks))
+  pub apart_parts : {p : Parts} → TakenApart input old_words old_tokens old_ticks (Ok p) words tokens ticks
+      → (p.words ≤ length words) × ((p.tokens ≤ length tokens) × (p.ticks ≤ length ticks))
   apart_parts (TakenApart.apart c f p q) = (read_part f refl, ((wrote_part p).0, (wrote_part q).0))
 
   -- No more tokens than the buffer has room for.
-  pub apart_short : {n k t : ℕ} → TakenApart input old_words old_tokens old_ticks (Apart n k t) words tokens ticks
-      → length (take k tokens) ≤ length old_tokens
+  pub apart_short : {p : Parts} → TakenApart input old_words old_tokens old_ticks (Ok p) words tokens ticks
+      → length (take p.tokens tokens) ≤ length old_tokens
   apart_short (TakenApart.apart c f p q) =
       let most = min-le_left (length old_tokens) (length (tokens_of input)) in
       omega (arith, ap length (wrote_front p), length-take (length old_tokens) (tokens_of input))
 
   -- In buffers of 2,783 words and 4,097 tokens and ticks it decides.
-  pub apart_kept : {n k t : ℕ} → TakenApart input old_words old_tokens old_ticks (Apart n k t) words tokens ticks → length old_words ≡ 2783
-      → length old_tokens ≡ 4097 → length old_ticks ≡ 4097 → Kept input (take n words) (take k tokens) (take t ticks)
-  apart_kept {n} (TakenApart.apart c f p q) a b d =
+  pub apart_kept : {p : Parts} → TakenApart input old_words old_tokens old_ticks (Ok p) words tokens ticks → length old_words ≡ 2783
+      → length old_tokens ≡ 4097 → length old_ticks ≡ 4097 → Kept input (take p.words words) (take p.tokens tokens) (take p.ticks ticks)
+  apart_kept (TakenApart.apart {n = n} c f p q) a b d =
       record {
         counted = c;
         file =
@@ -133,7 +132,7 @@ shown_unique p q = whole_unique Printed (λ input a b x y. printed_unique x y) p
 
 -- The refusal of an input's count or file is printed.
 pub taken_refused : {input old_words old_tokens old_ticks words tokens ticks : List ℕ} {r : Refusal}
-    → TakenApart input old_words old_tokens old_ticks (Refused r) words tokens ticks → length old_words ≡ 2783
+    → TakenApart input old_words old_tokens old_ticks (Err r) words tokens ticks → length old_words ≡ 2783
     → Printed input (refused_line (number_of r))
 taken_refused (TakenApart.uncounted n) e = Printed.uncounted n
 taken_refused {input} {words = words} {r = r} (TakenApart.unread c f) e =

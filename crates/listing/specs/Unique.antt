@@ -1,23 +1,20 @@
 -- An input has one listing: two outputs that `Printed` allows are equal. So are the answers of the functions, with every byte of their
 -- buffers.
-use Rattle.std.specs.Prelude.{ℕ, ◌≤◌, ◌≡◌, refl, List, ◌++◌, length, take, drop}
+use Rattle.std.specs.Prelude.{ℕ, ◌≤◌, ◌≡◌, refl, List, ◌++◌, length, take, drop, Result, Err}
 use Rattle.std.proofs.Common.{arith, sym, ap, ap₂, ◌∙◌, subst, take-append-drop, take_all, length-take-le}
 use Rattle.grammar.specs.File.{FileRead}
 use Rattle.grammar.specs.Moves.{Move, edits}
 use Rattle.grammar.specs.Run.{Parses}
 use Rattle.grammar.specs.Words.{tick_unit}
 use Rattle.grammar.specs.Pace.{timed, Reported}
-use Rattle.grammar.specs.Refusals.{Outcome, given, refused, number_of}
-use Rattle.grammar.specs.Theory.Outcomes.{given_refused, given_same, refused_same}
+use Rattle.grammar.specs.Refusals.{Outcome, given, refused, number_of, outcome_of}
+use Rattle.grammar.specs.Theory.Outcomes.{given_refused, given_same, refused_same, outcome_same}
 use Rattle.grammar.specs.Listing.{Printed, refused_line, listing, tokens_of}
 use Rattle.grammar.specs.declared.Counts.{Counts}
 use Rattle.grammar.specs.declared.Refusal.{Refusal}
 use Rattle.grammar.specs.declared.Report.{Report}
-use Rattle.listing.specs.declared.input.Blocks.{Blocks}
-use Rattle.listing.specs.declared.input.Blocks.TheVariants.{EndAt, Refused}
-use Rattle.listing.specs.declared.input.Taken.{Taken}
-use Rattle.listing.specs.declared.input.Taken.TheVariants.{Refused as NotTaken}
-use Rattle.listing.specs.Answer.{Appends, InputCounted, TakenApart, Wrote, end_of}
+use Rattle.listing.specs.declared.input.Parts.{Parts}
+use Rattle.listing.specs.Answer.{Appends, InputCounted, TakenApart, Wrote}
 use Rattle.grammar.proofs.Theory.Answered.{parses_unique}
 use Rattle.grammar.proofs.Theory.Sentences.{file_read_unique, reported_unique}
 
@@ -74,11 +71,8 @@ printed_unique {input} (Printed.listed c f p e) (Printed.listed d g q h) =
 -- ---- The functions
 
 -- Where the blocks end.
-pub blocks_unique : {input : List ℕ} (a b : Blocks) → InputCounted input (end_of a) → InputCounted input (end_of b) → a ≡ b
-blocks_unique (EndAt n) (EndAt m) p q = ap EndAt (given_same (counted_unique p q))
-blocks_unique (EndAt n) (Refused r) p q = absurd (given_refused refl (counted_unique p q))
-blocks_unique (Refused r) (EndAt m) p q = absurd (given_refused refl (counted_unique q p))
-blocks_unique (Refused r) (Refused q) p k = ap Refused (refused_same (counted_unique p k))
+pub blocks_unique : {input : List ℕ} (a b : Result ℕ Refusal) → InputCounted input (outcome_of a) → InputCounted input (outcome_of b) → a ≡ b
+blocks_unique a b p q = outcome_same a b (counted_unique p q)
 
 -- What was written from the front on: tokens, ticks, lines.
 pub wrote_unique : {old new x y : List ℕ} {n m : ℕ} → Wrote old new x n → Wrote old new y m → (n ≡ m) × (x ≡ y)
@@ -87,7 +81,7 @@ wrote_unique {old} {new} p q =
     (same, p.holds ∙ (ap (λ k. take (length old) new ++ drop k old) same ∙ sym q.holds))
 
 -- An input taken apart: the answer and the three buffers.
-pub taken_unique : {input old_words old_tokens old_ticks x y z u v w : List ℕ} {a b : Taken}
+pub taken_unique : {input old_words old_tokens old_ticks x y z u v w : List ℕ} {a b : Result Parts Refusal}
     → TakenApart input old_words old_tokens old_ticks a x y z → TakenApart input old_words old_tokens old_ticks b u v w
     → (a ≡ b) × ((x ≡ u) × ((y ≡ v) × (z ≡ w)))
 taken_unique (TakenApart.uncounted n) (TakenApart.uncounted m) = (refl, (refl, (refl, refl)))
@@ -96,7 +90,7 @@ taken_unique (TakenApart.uncounted n) (TakenApart.apart c f p q) = absurd (n c)
 taken_unique (TakenApart.unread c f) (TakenApart.uncounted n) = absurd (n c)
 taken_unique (TakenApart.unread c f) (TakenApart.unread d g) =
     let same = file_read_unique f g in
-    (ap NotTaken (refused_same same.0), (same.1, (refl, refl)))
+    (ap (λ r. Err r) (refused_same same.0), (same.1, (refl, refl)))
 taken_unique (TakenApart.unread c f) (TakenApart.apart d g p q) = read_or_refused g f
 taken_unique (TakenApart.apart c f p q) (TakenApart.uncounted n) = absurd (n c)
 taken_unique (TakenApart.apart c f p q) (TakenApart.unread d g) = read_or_refused f g

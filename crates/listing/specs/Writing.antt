@@ -1,16 +1,18 @@
 -- Bytes written one behind the other, as far as they fit.
 --     wrote_length, wrote_fits    the buffer keeps its length; what ends before the buffer's end is written whole
 --     put_none, put_one, put_past nothing is written; one byte that fits; one that does not
+--     put_part                    a text, of which a part fits
 --     put_then                    two lists, one behind the other
 --     put_more, put_text          a text, byte by byte
 --     put_all                     what is written from the front on
 use Rattle.std.specs.Prelude.{ℕ, suc, ◌+◌, ◌≤◌, ◌<◌, ◌≡◌, refl, List, [], ◌∷◌, ◌++◌, length, take, drop, set, get_or}
 use Rattle.std.proofs.Math.Decide.{dec_lt}
 use Rattle.std.proofs.Math.Nat.{min-le_left}
-use Rattle.std.proofs.Common.{add-one, arith, sym, ap, ◌∙◌, subst, append-nil, append_assoc, length-append, length-drop, length-take, drop-cons, take_all, take-suc, length-take-le}
+use Rattle.std.proofs.Common.{add-one, add-zero, arith, sym, ap, ◌∙◌, subst, append-nil, append_assoc, length-append, length-drop, length-take, drop-cons, take_all, take-suc, length-take-le, min, ◌-◌}
 use Rattle.std.proofs.Math.Logic.{dite}
-use Rattle.std.proofs.lemmas.List.{set_at, take-append-le}
-use Rattle.std.proofs.Math.Seq.{take-nil}
+use Rattle.std.proofs.lemmas.List.{set_at, take-append-le, take_at, take-append-drop}
+use Rattle.std.proofs.lemmas.Slice.{drop-append-drop}
+use Rattle.std.proofs.Math.Seq.{take-nil, take-append-add}
 use Rattle.listing.specs.Answer.{Wrote, Appends}
 
 module _ {old front buffer : List ℕ} {at : ℕ} (w : Wrote old front buffer at) where
@@ -80,6 +82,57 @@ wrote_past {old} {front} {buffer} {at} new w l =
 
 pub put_past : (buffer : List ℕ) (at b : ℕ) → length buffer ≤ at → at ≤ length buffer → Appends buffer at (b ∷ []) buffer at
 put_past buffer at b l m = record { within = m; goes = λ old front w. wrote_past (b ∷ []) w l }
+
+-- A text, of which `part` fits.
+wrote_text : {old front buffer part : List ℕ} {at count : ℕ} (text : List ℕ) → Wrote old front buffer at → at ≤ length buffer
+    → count ≡ min (length text) (length buffer - at) → part ≡ take count text
+    → Wrote old (front ++ text) (take at buffer ++ (part ++ drop (at + count) buffer)) (at + count)
+wrote_text {old} {front} {buffer} {part} {at} {count} text w l fit p =
+    let same : length buffer ≡ length old = wrote_length w in
+    dite (dec_lt at (length buffer))
+    (λ less.
+    let whole : take (length old) front ≡ front = wrote_fits w (omega (arith, same)) in
+    let size : at ≡ length front = w.number ∙ ap length whole in
+    let held : buffer ≡ front ++ drop (length front) old = w.holds ∙ (cc) in
+    let room : ℕ = length old - length front in
+    let shown : take room text ≡ take count text =
+    dite (dec_lt room (length text))
+    (λ more. ap (λ (k : ℕ). take k text) (omega (arith, fit, size, same)))
+    (λ all. take_all room text (omega arith) ∙ sym (take_all count text (omega (arith, fit, size, same)))) in
+    let next : take (length old) (front ++ text) ≡ front ++ take count text =
+    ap (λ (k : ℕ). take k (front ++ text)) (omega (arith, size, same))
+    ∙ (take-append-add front text room ∙ ap (λ (t : List ℕ). front ++ t) shown) in
+    let before : take at buffer ≡ front = ap (take at) held ∙ take_at front (drop (length front) old) at (sym size) in
+    let behind : drop (at + count) buffer ≡ drop (at + count) old =
+    ap (drop (at + count)) held ∙ drop-append-drop (length front) old front (at + count) (omega (arith, size)) refl in
+    record {
+      number =
+          omega (arith, size, ap length next, length-append front (take count text), length-take-le count text (omega (arith, fit)));
+      holds =
+          ap (λ (t : List ℕ). t ++ (part ++ drop (at + count) buffer)) before
+          ∙ (ap (λ (t : List ℕ). front ++ (t ++ drop (at + count) buffer)) p
+          ∙ (ap (λ (t : List ℕ). front ++ (take count text ++ t)) behind
+          ∙ (sym (append_assoc front (take count text) (drop (at + count) old))
+          ∙ ap (λ (t : List ℕ). t ++ drop (at + count) old) (sym next))));
+    })
+    (λ full.
+    let none : count ≡ 0 = omega (arith, fit) in
+    let stays : take at buffer ++ (part ++ drop (at + count) buffer) ≡ buffer =
+    ap (λ (t : List ℕ). take at buffer ++ (t ++ drop (at + count) buffer)) (p ∙ ap (λ (k : ℕ). take k text) none)
+    ∙ (ap (λ (k : ℕ). take at buffer ++ drop k buffer) (omega (arith, none)) ∙ take-append-drop at buffer) in
+    let past : Wrote old (front ++ text) buffer at = wrote_past text w (omega arith) in
+    rw stays (rw none (rw (add-zero at) past)))
+
+pub put_part : {buffer part text : List ℕ} {at count : ℕ} → at ≤ length buffer → count ≡ min (length text) (length buffer - at)
+    → part ≡ take count text → Appends buffer at text (take at buffer ++ (part ++ drop (at + count) buffer)) (at + count)
+put_part {buffer} {part} {text} {at} {count} l fit p =
+    let size : length part ≡ count = ap length p ∙ length-take-le count text (omega (arith, fit)) in
+    let split = length-append (take at buffer) (part ++ drop (at + count) buffer) in
+    let behind = length-append part (drop (at + count) buffer) in
+    record {
+      within = omega (arith, fit, size, split, behind, length-take-le at buffer l, length-drop (at + count) buffer);
+      goes = λ old front w. wrote_text text w l fit p;
+    }
 
 pub put_then : {a b c x y : List ℕ} {i j k : ℕ} → Appends a i x b j → Appends b j y c k → Appends a i (x ++ y) c k
 put_then {c = c} {x = x} {y = y} {k = k} p q =

@@ -7,14 +7,12 @@ ghost use Rattle.listing.specs.Leads.{Kept};
 ghost use Rattle.listing.specs.Answer.{Appends};
 ghost use Rattle.listing.specs.Shown.{Shown, ShownWhole};
 
-use input::Taken;
-use pace::Paced;
-
 pub mod input;
 pub mod lines;
 
 // Puts the listing of an input in front of the buffer, and gives its length. The room holds the input's first `size` bytes; where it
 // is full, whatever stood behind them decides nothing: 30,216 bytes are the count, 11 blocks and 4,097 entries.
+// Kept: a slice of the bytes kept would not say whether the room is full, which `ShownWhole` asks.
 pub fn show(room: &[u8], size: usize, out: &mut [u8]) -> usize
     requires in_bounds { 30216 ≤ length room.now }
     requires size_in_bounds { size ≤ length room.now }
@@ -29,7 +27,9 @@ pub fn keep(room: &mut [u8], size: usize, part: &[u8]) -> usize
     requires { size ≤ length room.old }
     ensures { Appends room.old size part.now room.new result }
 {
-    lines::put_text(room, size, part)
+    let mut pen = lines::Pen::new(room, size);
+    pen.text(part);
+    pen.end()
 }
 
 // The listing of an input that was kept whole. 4,097 tokens are enough to tell that there are too many.
@@ -40,16 +40,15 @@ fn show_input(input: &[u8], out: &mut [u8]) -> usize
     let mut words = [0u16; 2783];
     let mut tokens = [0u16; 4097];
     let mut ticks = [0u32; 4097];
-    let taken = input::take_apart(input, &mut words, &mut tokens, &mut ticks);
-    match taken {
-        Taken::Apart(count, n, t) => show_run(
+    match input::take_apart(input, &mut words, &mut tokens, &mut ticks) {
+        Ok(parts) => show_run(
             input,
-            &words[..count],
-            &tokens[..n],
-            &ticks[..t],
+            &words[..parts.words],
+            &tokens[..parts.tokens],
+            &ticks[..parts.ticks],
             out,
         ),
-        Taken::Refused(refusal) => lines::refused(refusal, out),
+        Err(refusal) => lines::refused(refusal, out),
     }
 }
 
@@ -61,12 +60,14 @@ fn show_run(input: &[u8], words: &[u16], log: &[u16], ticks: &[u32], out: &mut [
 {
     let mut edits = [0u16; 24576];
     let mut rules = [0u16; 16384];
-    let paced = pace::report(words, log, ticks, &mut edits, &mut rules);
-    match paced {
-        Paced::Refused(refusal) => lines::refused(refusal, out),
-        Paced::Reported(report, counts) => {
-            let end = 3 * counts.records;
-            lines::listed(log.len(), counts, &edits[..end], report, out)
-        }
+    match pace::report(words, log, ticks, &mut edits, &mut rules) {
+        Ok((report, counts)) => lines::listed(
+            log.len(),
+            counts,
+            &edits[..3 * counts.records],
+            report,
+            out,
+        ),
+        Err(refusal) => lines::refused(refusal, out),
     }
 }

@@ -1,5 +1,5 @@
 // The lines of the listing: document 01, "The printed listing", second half. Each function writes as much as fits.
-ghost use Rattle.std.specs.Prelude.{[], ◌∷◌, ◌++◌, ◌+◌, ◌*◌, ◌/◌, ◌≤◌, length};
+ghost use Rattle.std.specs.Prelude.{[], ◌∷◌, ◌++◌, ◌+◌, ◌*◌, ◌/◌, ◌≤◌, ◌≡◌, length};
 ghost use Rattle.grammar.specs.Refusals.{number_of};
 ghost use Rattle.grammar.specs.Listing.{
   decimal,
@@ -12,7 +12,7 @@ ghost use Rattle.grammar.specs.Listing.{
   pace_line,
   refused_line,
 };
-ghost use Rattle.listing.specs.Answer.{Appends, Wrote, records_of};
+ghost use Rattle.listing.specs.Answer.{Wrote, records_of};
 
 use grammar::{Counts, Pace, Refusal, Report};
 
@@ -20,8 +20,10 @@ use grammar::{Counts, Pace, Refusal, Report};
 pub fn refused(refusal: Refusal, out: &mut [u8]) -> usize
     ensures { Wrote out.old (refused_line (number_of refusal)) out.new result }
 {
-    let at = put_field(out, 0, b"refused ", grammar::number_of(refusal) as u64);
-    put_byte(out, at, b'\n')
+    let mut pen = Pen::new(out, 0);
+    pen.field(b"refused ", u64::from(u32::from(refusal)));
+    pen.byte(b'\n');
+    pen.end()
 }
 
 // Writes the listing of a run into the buffer, as much as fits, and gives how many bytes that are. `edits` are the words of
@@ -31,121 +33,137 @@ pub fn listed(tokens: usize, counts: Counts, edits: &[u16], report: Report, out:
     ensures report_len_bound { length (listing tokens counts (records_of edits.now) report)
         ≤ 19 * (length edits.now / 3) + 169 }
 {
-    let at = put_ok(out, tokens, counts);
-    let next = put_edits(out, at, edits);
-    put_pace(out, next, report)
+    let mut pen = Pen::new(out, 0);
+    pen.ok_line(tokens, counts);
+    pen.edit_lines(edits);
+    pen.pace_line(report);
+    pen.end()
 }
 
-// The first line.
-fn put_ok(out: &mut [u8], tokens: usize, counts: Counts) -> usize
-    ensures { Appends out.old 0 (ok_line tokens counts) out.new result }
-{
-    let first = put_field(out, 0, b"ok tokens ", tokens as u64);
-    let second = put_field(out, first, b" moves ", counts.moves as u64);
-    let third = put_field(out, second, b" edits ", counts.records as u64);
-    let fourth = put_field(out, third, b" rules ", counts.listed as u64);
-    put_byte(out, fourth, b'\n')
+// Writes into a buffer, behind the bytes that end at `at`. A byte past the buffer's end is left out.
+#[derive(Drop)]
+pub struct Pen<'a> {
+    out: &'a mut [u8],
+    at: usize,
+    ghost within: { at ≤ length out.now },
 }
 
-// The edit lines, one for each three words.
-fn put_edits(out: &mut [u8], at: usize, edits: &[u16]) -> usize
-    requires { at ≤ length out.old }
-    ensures { Appends out.old at (edit_lines (records_of edits.now)) out.new result }
-{
-    let mut next = at;
-    let mut i = 0;
-    while edits.len() - i >= 3 {
-        next = put_edit(out, next, edits[i], edits[i + 1], edits[i + 2]);
-        i += 3;
+impl<'a> Pen<'a> {
+    ghost use Rattle.listing.specs.Pens.{Penned};
+
+    pub fn new(out: &'a mut [u8], at: usize) -> Pen<'a>
+        requires { at ≤ length out.old }
+        ensures same { result.out.ghost_name ≡ out.entry.ghost_name }
+        ensures holds { result.out.now ≡ out.old }
+        ensures begins { result.at ≡ at }
+    {
+        Pen { out, at }
     }
-    next
-}
 
-// The line of one edit record.
-fn put_edit(out: &mut [u8], at: usize, kind: u16, place: u16, symbol: u16) -> usize
-    requires { at ≤ length out.old }
-    ensures { Appends out.old at (edit_line (record { kind = kind; place = place; symbol = symbol }))
-        out.new result }
-{
-    let first = put_kind(out, at, kind, place);
-    let second = put_field(out, first, b" ", symbol as u64);
-    put_byte(out, second, b'\n')
-}
+    // Where the bytes that were written end.
+    pub fn end(self) -> usize
+        ensures count { result ≡ self.entry.at }
+        ensures stays { self.exit.0.now ≡ self.entry.out.now }
+    {
+        self.at
+    }
 
-// The last line.
-fn put_pace(out: &mut [u8], at: usize, report: Report) -> usize
-    requires { at ≤ length out.old }
-    ensures appends { Appends out.old at (pace_line report.count report.sum report.pace) out.new result }
-    ensures pace_len_bound { length (pace_line report.count report.sum report.pace) ≤ 57 }
-{
-    let pace = report.pace;
-    match pace {
-        Pace::Idle => {
-            let end = put_text(out, at, b"pace idle");
-            put_byte(out, end, b'\n')
+    pub fn byte(&mut self, byte: u8)
+        ensures { Penned self.old (byte ∷ []) self.new }
+    {
+        let at = self.at;
+        if self.out.len() <= at {
+            return;
         }
-        Pace::Mean(_) => {
-            let first = put_field(out, at, b"pace cycles ", report.count as u64);
-            let second = put_field(out, first, b" ms ", report.sum);
-            put_byte(out, second, b'\n')
+        self.out[at] = byte;
+        self.at = at + 1;
+    }
+
+    pub fn text(&mut self, text: &[u8])
+        ensures { Penned self.old text.now self.new }
+    {
+        let at = self.at;
+        let count = text.len().min(self.out.len() - at);
+        self.out[at..at + count].copy_from_slice(&text[..count]);
+        self.at = at + count;
+    }
+
+    // A number in decimal: its last digit stands behind the digits of its tenth.
+    fn decimal(&mut self, n: u64)
+        ensures { Penned self.old (decimal n) self.new }
+    {
+        if n < 10 {
+            self.byte(48 + n as u8);
+            return;
+        }
+        self.decimal(n / 10);
+        self.byte(48 + (n % 10) as u8);
+    }
+
+    // A word and a number.
+    pub fn field(&mut self, word: &[u8], n: u64)
+        ensures { Penned self.old (word.now ++ decimal n) self.new }
+    {
+        self.text(word);
+        self.decimal(n);
+    }
+
+    // The first line.
+    fn ok_line(&mut self, tokens: usize, counts: Counts)
+        ensures { Penned self.old (ok_line tokens counts) self.new }
+    {
+        self.field(b"ok tokens ", tokens as u64);
+        self.field(b" moves ", counts.moves as u64);
+        self.field(b" edits ", counts.records as u64);
+        self.field(b" rules ", counts.listed as u64);
+        self.byte(b'\n');
+    }
+
+    // The edit lines, one for each three words.
+    fn edit_lines(&mut self, edits: &[u16])
+        ensures { Penned self.old (edit_lines (records_of edits.now)) self.new }
+    {
+        for record in edits.chunks_exact(3) {
+            self.edit_line(record[0], record[1], record[2]);
         }
     }
-}
 
-// A record's kind and place.
-fn put_kind(out: &mut [u8], at: usize, kind: u16, place: u16) -> usize
-    requires { at ≤ length out.old }
-    ensures { Appends out.old at (field (kind_word kind) place) out.new result }
-{
-    if kind == 1 {
-        return put_field(out, at, b"delete ", place as u64);
+    // The line of one edit record.
+    fn edit_line(&mut self, kind: u16, place: u16, symbol: u16)
+        ensures { Penned self.old (edit_line (record { kind = kind; place = place; symbol = symbol }))
+            self.new }
+    {
+        self.kind(kind, place);
+        self.field(b" ", u64::from(symbol));
+        self.byte(b'\n');
     }
-    put_field(out, at, b"insert ", place as u64)
-}
 
-// ---- Bytes written behind those that end at `at`: each of these gives where to go on. A byte past the buffer's end is left out.
-
-// A word and a number.
-pub fn put_field(out: &mut [u8], at: usize, word: &[u8], n: u64) -> usize
-    requires { at ≤ length out.old }
-    ensures { Appends out.old at (word.now ++ decimal n) out.new result }
-{
-    let next = put_text(out, at, word);
-    put_decimal(out, next, n)
-}
-
-pub fn put_text(out: &mut [u8], at: usize, text: &[u8]) -> usize
-    requires { at ≤ length out.old }
-    ensures { Appends out.old at text.now out.new result }
-{
-    let mut next = at;
-    let mut i = 0;
-    while i < text.len() {
-        next = put_byte(out, next, text[i]);
-        i += 1;
+    // A record's kind and place.
+    fn kind(&mut self, kind: u16, place: u16)
+        ensures { Penned self.old (field (kind_word kind) place) self.new }
+    {
+        if kind == 1 {
+            self.field(b"delete ", u64::from(place));
+        } else {
+            self.field(b"insert ", u64::from(place));
+        }
     }
-    next
-}
 
-// A number in decimal: its last digit stands behind the digits of its tenth.
-fn put_decimal(out: &mut [u8], at: usize, n: u64) -> usize
-    requires { at ≤ length out.old }
-    ensures { Appends out.old at (decimal n) out.new result }
-{
-    if n < 10 {
-        return put_byte(out, at, 48 + n as u8);
+    // The last line.
+    fn pace_line(&mut self, report: Report)
+        ensures penned { Penned self.old (pace_line report.count report.sum report.pace) self.new }
+        ensures pace_len_bound { length (pace_line report.count report.sum report.pace) ≤ 57 }
+    {
+        match report.pace {
+            Pace::Idle => {
+                self.text(b"pace idle");
+                self.byte(b'\n');
+            }
+            Pace::Mean(_) => {
+                self.field(b"pace cycles ", report.count as u64);
+                self.field(b" ms ", report.sum);
+                self.byte(b'\n');
+            }
+        }
     }
-    let next = put_decimal(out, at, n / 10);
-    put_byte(out, next, 48 + (n % 10) as u8)
-}
-
-pub fn put_byte(out: &mut [u8], at: usize, byte: u8) -> usize
-    requires { at ≤ length out.old }
-    ensures { Appends out.old at (byte ∷ []) out.new result }
-{
-    if at < out.len() {
-        out[at] = byte;
-        return at + 1;
-    }
-    at
 }

@@ -1,4 +1,3 @@
--- What the functions' proofs cite: lines written and marks counted word by word, and places that have their own numbers.
+-- What the functions' proofs cite: lines written word by word, and added tokens counted.
 mod Putting
 mod Counting
-mod Numbering

@@ -1,5 +1,5 @@
 -- The lines of an input, shown in a buffer.
-use Rattle.std.specs.Prelude.{ℕ, ◌≤◌, ◌≡◌, List, length, take}
+use Rattle.std.specs.Prelude.{ℕ, ◌≤◌, ◌≡◌, List, length, take, Err}
 use Rattle.std.proofs.Common.{subst}
 use Rattle.grammar.specs.File.{FileRead}
 use Rattle.grammar.specs.Listing.{file_of, refused_line}
@@ -8,7 +8,6 @@ use Rattle.grammar.specs.Refusals.{number_of, refused}
 use Rattle.grammar.specs.declared.Refusal.{Refusal}
 use Rattle.listing.specs.Answer.{TakenApart}
 use Rattle.listing.specs.Shown.{ShownBy, WholeBy, whole_by, whole_unique}
-use Rattle.listing.specs.declared.input.Taken.TheVariants.{Refused}
 use Rattle.mark_lines.specs.Enough.{marks_front}
 use Rattle.mark_lines.specs.Unique.{marks_printed_unique}
 
@@ -32,7 +31,7 @@ marks_shown_unique p q = whole_unique MarksPrinted (λ input a b x y. marks_prin
 
 -- The refusal of an input's count or file is printed.
 pub taken_refused : {input old_words old_tokens old_ticks words tokens ticks : List ℕ} {r : Refusal}
-    → TakenApart input old_words old_tokens old_ticks (Refused r) words tokens ticks → length old_words ≡ 2783
+    → TakenApart input old_words old_tokens old_ticks (Err r) words tokens ticks → length old_words ≡ 2783
     → MarksPrinted input (refused_line (number_of r))
 taken_refused (TakenApart.uncounted n) e = MarksPrinted.uncounted n
 taken_refused {input} {words = words} {r = r} (TakenApart.unread c f) e =

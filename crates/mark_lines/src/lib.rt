@@ -6,13 +6,11 @@ ghost use Rattle.std.specs.Prelude.{◌≡◌, ℕ, ◌≤◌, ◌<◌, get_or, 
 ghost use Rattle.listing.specs.Leads.{Kept};
 ghost use Rattle.mark_lines.specs.Shown.{MarksShown, MarksShownWhole};
 
-use listing::input::Taken;
-use marks::Marking;
-
 mod lines;
 
 // Puts the lines of an input in front of the buffer, and gives their length. The room holds the input's first `size` bytes; where it
 // is full, whatever stood behind them decides nothing: 30,216 bytes are the count, 11 blocks and 4,097 entries.
+// Kept: a slice of the bytes kept would not say whether the room is full, which `MarksShownWhole` asks.
 pub fn show(room: &[u8], size: usize, out: &mut [u8]) -> usize
     requires in_bounds { 30216 ≤ length room.now }
     requires size_in_bounds { size ≤ length room.now }
@@ -31,6 +29,7 @@ pub fn buffer() -> [u8; 1441846]
 }
 
 // The lines of an input that was kept whole. 4,097 tokens are enough to tell that there are too many.
+// Kept beside listing's: one function for both needs a trait with the lines as a ghost member and a type for each, which is longer.
 fn show_input(input: &[u8], out: &mut [u8]) -> usize
     requires { 1441846 ≤ length out.old }
     ensures { MarksShown input.now out.old out.new result }
@@ -38,16 +37,15 @@ fn show_input(input: &[u8], out: &mut [u8]) -> usize
     let mut words = [0u16; 2783];
     let mut tokens = [0u16; 4097];
     let mut ticks = [0u32; 4097];
-    let taken = listing::input::take_apart(input, &mut words, &mut tokens, &mut ticks);
-    match taken {
-        Taken::Apart(count, n, t) => show_run(
+    match listing::input::take_apart(input, &mut words, &mut tokens, &mut ticks) {
+        Ok(parts) => show_run(
             input,
-            &words[..count],
-            &tokens[..n],
-            &ticks[..t],
+            &words[..parts.words],
+            &tokens[..parts.tokens],
+            &ticks[..parts.ticks],
             out,
         ),
-        Taken::Refused(refusal) => listing::lines::refused(refusal, out),
+        Err(refusal) => listing::lines::refused(refusal, out),
     }
 }
 
@@ -66,7 +64,7 @@ fn show_run(input: &[u8], words: &[u16], log: &[u16], ticks: &[u32], out: &mut [
     number(&mut places);
     let n = log.len();
     let timed = ticks.len() == n;
-    let marking = marks::marks_as(
+    match marks::marks_as(
         words,
         log,
         timed,
@@ -75,10 +73,9 @@ fn show_run(input: &[u8], words: &[u16], log: &[u16], ticks: &[u32], out: &mut [
         &mut edits,
         &mut rules,
         &mut marked,
-    );
-    match marking {
-        Marking::Refused(refusal) => listing::lines::refused(refusal, out),
-        Marking::Marked(_, count) => lines::listed(&marked[..count], log, ticks, out),
+    ) {
+        Ok((_, count)) => lines::listed(&marked[..count], log, ticks, out),
+        Err(refusal) => listing::lines::refused(refusal, out),
     }
 }
 
@@ -87,9 +84,7 @@ fn number(places: &mut [u16])
     requires { length places.old ≤ 65536 }
     ensures { (p : ℕ) → p < length places.new → get_or places.new p 0 ≡ p }
 {
-    let mut i = 0;
-    while i < places.len() {
-        places[i] = i as u16;
-        i += 1;
+    for (i, place) in places.iter_mut().enumerate() {
+        *place = i as u16;
     }
 }

@@ -1,8 +1,11 @@
 // The lines of print_marks: document 02, request (iv). Each function writes as much as fits.
 ghost use Rattle.std.specs.Prelude.{List, ◌≡◌, ℕ, ◌+◌, ◌*◌, ◌≤◌, ◌<◌, length};
 ghost use Rattle.grammar.specs.MarkLines.{added_count, mark_line, mark_lines, mark_listing, marks_line};
-ghost use Rattle.listing.specs.Answer.{Appends, Wrote};
+ghost use Rattle.listing.specs.Answer.{Wrote};
+ghost use Rattle.listing.specs.Pens.{Penned};
 ghost use Rattle.mark_lines.specs.Told.{Placed, mark_of, marks_in};
+
+use listing::lines::Pen;
 
 // A word that is lower is the place of a kept mark; any other is an added token, raised by so much. `mark_of` of specs/Told.antt says so.
 pub const ADDED: u16 = 4096;
@@ -15,63 +18,50 @@ pub fn listed(words: &[u16], log: &[u16], ticks: &[u32], out: &mut [u8]) -> usiz
     ensures words_len_bound { length (mark_listing ticks.now (marks_in log.now words.now))
         ≤ 22 * length words.now + 54 }
 {
-    let next = put_marks(out, words, log, ticks);
-    put_last(out, next, words.len(), added_in(words))
+    let mut pen = Pen::new(out, 0);
+    put_marks(&mut pen, words, log, ticks);
+    put_last(&mut pen, words.len(), added_in(words));
+    pen.end()
 }
 
 // The last line.
-fn put_last(out: &mut [u8], at: usize, marks: usize, added: usize) -> usize
-    requires { at ≤ length out.old }
-    ensures { Appends out.old at (marks_line marks added) out.new result }
+fn put_last(pen: &mut Pen<'_>, marks: usize, added: usize)
+    ensures { Penned pen.old (marks_line marks added) pen.new }
 {
-    let first = listing::lines::put_field(out, at, b"marks ", marks as u64);
-    let second = listing::lines::put_field(out, first, b" added ", added as u64);
-    listing::lines::put_byte(out, second, b'\n')
+    pen.field(b"marks ", marks as u64);
+    pen.field(b" added ", added as u64);
+    pen.byte(b'\n');
 }
 
 // How many of the words are added tokens.
 fn added_in(words: &[u16]) -> usize
     ensures { (log : List ℕ) → result ≡ added_count (marks_in log words.now) }
 {
-    let mut added = 0;
-    let mut i = 0;
-    while i < words.len() {
-        if ADDED <= words[i] {
-            added += 1;
-        }
-        i += 1;
-    }
-    added
+    words.iter().filter(|x| ADDED <= **x).count()
 }
 
-// The lines of the marks, from the buffer's front on.
-fn put_marks(out: &mut [u8], words: &[u16], log: &[u16], ticks: &[u32]) -> usize
+// The lines of the marks.
+fn put_marks(pen: &mut Pen<'_>, words: &[u16], log: &[u16], ticks: &[u32])
     requires { Placed words.now log.now ticks.now }
-    ensures { Appends out.old 0 (mark_lines ticks.now (marks_in log.now words.now))
-        out.new result }
+    ensures { Penned pen.old (mark_lines ticks.now (marks_in log.now words.now)) pen.new }
 {
-    let mut next = 0;
-    let mut i = 0;
-    while i < words.len() {
-        next = put_mark(out, next, words[i], log, ticks);
-        i += 1;
+    for &word in words {
+        put_mark(pen, word, log, ticks);
     }
-    next
 }
 
 // The line of the mark that a word tells.
-fn put_mark(out: &mut [u8], at: usize, word: u16, log: &[u16], ticks: &[u32]) -> usize
-    requires at_in_bounds { at ≤ length out.old }
+fn put_mark(pen: &mut Pen<'_>, word: u16, log: &[u16], ticks: &[u32])
     requires word_in_bounds { word < 4096 → word < length log.now }
     requires ticks_len { length ticks.now ≡ length log.now }
-    ensures { Appends out.old at (mark_line ticks.now (mark_of log.now word)) out.new result }
+    ensures { Penned pen.old (mark_line ticks.now (mark_of log.now word)) pen.new }
 {
     if ADDED <= word {
-        let token = listing::lines::put_field(out, at, b"add ", (word - ADDED) as u64);
-        return listing::lines::put_byte(out, token, b'\n');
+        pen.field(b"add ", u64::from(word - ADDED));
+    } else {
+        let place = usize::from(word);
+        pen.field(b"keep ", u64::from(log[place]));
+        pen.field(b" ", u64::from(ticks[place]));
     }
-    let place = base::wide(word);
-    let first = listing::lines::put_field(out, at, b"keep ", log[place] as u64);
-    let second = listing::lines::put_field(out, first, b" ", ticks[place] as u64);
-    listing::lines::put_byte(out, second, b'\n')
+    pen.byte(b'\n');
 }

@@ -1,4 +1,5 @@
 -- The answer, from what the parse says and what was put into the buffer.
+use Rattle.std.specs.Prelude.{Option, Some, None, Result, Ok, Err}
 use Prim.Native.Nat.{ℕ, ◌+◌, ◌-◌, ◌*◌, ◌≤◌, ◌<◌}
 use mathlib.Core.Path.{◌≡◌, refl, sym, ap, ap₂, subst, subst₂, ◌∙◌}
 use mathlib.Core.List.{List, [], ◌∷◌, ◌++◌, map, Memᴰ}
@@ -12,7 +13,7 @@ use Rattle.grammar.specs.Buffers.{filled, cleared}
 use Rattle.grammar.specs.Moves.{Move, edits, edit_words}
 use Rattle.grammar.specs.Marks.{Mark, token_of, MarksOf, Marks, MarksAnswer, MarksBy}
 use Rattle.grammar.specs.Run.{Asks, only10, RunOf, Parses, ParsedAsking, counts_of}
-use Rattle.grammar.specs.Refusals.{Outcome, given, refused}
+use Rattle.grammar.specs.Refusals.{Outcome, given, refused, outcome_of}
 use Rattle.grammar.specs.declared.Refusal.{Refusal}
 use Rattle.grammar.specs.declared.Refusal.TheVariants.{ShortTokens}
 use Rattle.grammar.specs.declared.Counts.{Counts}
@@ -23,15 +24,9 @@ use Rattle.grammar.proofs.Theory.Marking.{run_of, known_repaired, marks_exist, m
 use Rattle.grammar.proofs.Theory.Places.{walk_run}
 use Rattle.grammar.proofs.Theory.Refused.{answered_given, answered_refused, parses_words}
 use Rattle.parser.specs.Parses.{CheapWhere, cheap_where}
-use Rattle.parser.specs.Runs.{parsing_of}
-use Rattle.parser.specs.declared.Parsing.{Parsing}
-use Rattle.parser.specs.declared.Parsing.TheVariants as parsing
-use Rattle.marks.specs.Answer.{marking_of, word_by, Named, PutOf}
+use Rattle.marks.specs.Answer.{word_by, Named, PutOf}
 use Rattle.marks.specs.Marking.{CanPut, PutAs, Ran}
 use Rattle.marks.specs.Restored.{ahead_log}
-use Rattle.marks.specs.declared.Marking.TheVariants.{Marked, Refused}
-use Rattle.marks.specs.declared.Put.{Put}
-use Rattle.marks.specs.declared.Put.TheVariants.{Whole, Short}
 
 -- ---- Buffers
 
@@ -72,12 +67,11 @@ record Parse (Asked : Asks) (ws log : List ℕ) (edit_room rule_room : ℕ) (cou
   parses : Parses Asked ws log edit_room rule_room (given moves) es rs
   counted : counts ≡ counts_of moves
 
-module _ {Asked : Asks} {ws log : List ℕ} {edit_room rule_room : ℕ} {es rs : List ℕ} {a : Parsing}
-    (p : ParsedAsking Asked ws log edit_room rule_room (parsing_of a) es rs) where
-  parse_of : {counts : Counts} → a ≡ parsing.Parsed counts → Parse Asked ws log edit_room rule_room counts es rs
-  unfolding parsing_of
+module _ {Asked : Asks} {ws log : List ℕ} {edit_room rule_room : ℕ} {es rs : List ℕ} {a : Result Counts Refusal}
+    (p : ParsedAsking Asked ws log edit_room rule_room (outcome_of a) es rs) where
+  parse_of : {counts : Counts} → a ≡ Ok counts → Parse Asked ws log edit_room rule_room counts es rs
   parse_of {counts} e =
-      let m = answered_given p.outcome (sym (ap parsing_of e) ∙ p.answers) in
+      let m = answered_given p.outcome (sym (ap outcome_of e) ∙ p.answers) in
       record {
         moves = m.0;
         parses = subst (λ o. Parses Asked ws log edit_room rule_room o es rs) m.1 p.parses;
@@ -85,18 +79,17 @@ module _ {Asked : Asks} {ws log : List ℕ} {edit_room rule_room : ℕ} {es rs :
       }
 
   -- A refusal of the parse is the answer.
-  pub marks_unparsed : {word_of : Mark → ℕ} {r : Refusal} (before : List ℕ) {after : List ℕ} {room : ℕ} → a ≡ parsing.Refused r
+  pub marks_unparsed : {word_of : Mark → ℕ} {r : Refusal} (before : List ℕ) {after : List ℕ} {room : ℕ} → a ≡ Err r
       → length before ≡ room
       → after ≡ take 0 before ++ replicate (length before - 0) 0
-      → Marks word_of Asked ws log edit_room rule_room room (marking_of (Refused r)) es rs after
-  unfolding parsing_of
+      → Marks word_of Asked ws log edit_room rule_room room (outcome_of {A = Counts × ℕ} (Err r)) es rs after
   marks_unparsed {word_of} {r} before {after} {room} e same f =
-      let told : parsing_of a ≡ refused r = ap parsing_of e in
+      let told : outcome_of a ≡ refused r = ap outcome_of e in
       let out = (answered_refused r p.answers).0 told in
       subst (λ t. Marks word_of Asked ws log edit_room rule_room room (refused r) es rs t) (sym (cleared_all before same f))
       (MarksBy.unparsed (subst (λ o. Parses Asked ws log edit_room rule_room o es rs) out p.parses))
 
-  module _ {counts : Counts} (told : a ≡ parsing.Parsed counts) where
+  module _ {counts : Counts} (told : a ≡ Ok counts) where
     parse : Parse Asked ws log edit_room rule_room counts es rs
     parse = parse_of told
 
@@ -146,9 +139,9 @@ module _ {Asked : Asks} {ws log : List ℕ} {edit_room rule_room : ℕ} {es rs :
     marked : MarksOf ws ms xs
     marked = (marks_exist admitted run).1
 
-    module _ {kept : List ℕ} {raise : ℕ} {old tokens : List ℕ} {r : Put} (named : Named log kept raise)
+    module _ {kept : List ℕ} {raise : ℕ} {old tokens : List ℕ} {r : Option ℕ} (named : Named log kept raise)
         (put : PutAs ws es counts.records kept raise old tokens r) where
-      puts : {q : Put} → r ≡ q → PutOf (map (word_by kept raise) xs) old tokens q
+      puts : {q : Option ℕ} → r ≡ q → PutOf (map (word_by kept raise) xs) old tokens q
       puts {q} e =
           subst (λ x. PutOf (map (word_by kept raise) xs) old tokens x) e (put.puts ms xs (ran kept named.each) marked)
 
@@ -156,8 +149,8 @@ module _ {Asked : Asks} {ws log : List ℕ} {edit_room rule_room : ℕ} {es rs :
       size = length-map xs (word_by kept raise)
 
       -- The whole result.
-      pub marks_whole : {after : List ℕ} {n : ℕ} → r ≡ Whole n → after ≡ take n tokens ++ replicate (length tokens - n) 0
-          → Marks (word_by kept raise) Asked ws log edit_room rule_room (length old) (marking_of (Marked counts n)) es rs after
+      pub marks_whole : {after : List ℕ} {n : ℕ} → r ≡ Some n → after ≡ take n tokens ++ replicate (length tokens - n) 0
+          → Marks (word_by kept raise) Asked ws log edit_room rule_room (length old) (outcome_of (Ok (counts, n))) es rs after
       unfolding PutOf
       marks_whole {after} {n} e f =
           let h = puts e in
@@ -168,10 +161,10 @@ module _ {Asked : Asks} {ws log : List ℕ} {edit_room rule_room : ℕ} {es rs :
           (MarksBy.whole parse.parses marked (omega (arith, size, h.1)))
 
       -- It does not fit: refusal 15.
-      pub marks_short : {edits' rules' tokens' : List ℕ} → r ≡ Short → length es ≡ edit_room → length rs ≡ rule_room
+      pub marks_short : {edits' rules' tokens' : List ℕ} → r ≡ None → length es ≡ edit_room → length rs ≡ rule_room
           → length tokens ≡ length old → edits' ≡ take 0 es ++ replicate (length es - 0) 0
           → rules' ≡ take 0 rs ++ replicate (length rs - 0) 0 → tokens' ≡ take 0 tokens ++ replicate (length tokens - 0) 0
-          → Marks (word_by kept raise) Asked ws log edit_room rule_room (length old) (marking_of (Refused ShortTokens)) edits' rules' tokens'
+          → Marks (word_by kept raise) Asked ws log edit_room rule_room (length old) (outcome_of {A = Counts × ℕ} (Err ShortTokens)) edits' rules' tokens'
       unfolding PutOf
       marks_short {edits'} {rules'} {tokens'} e same-edits same-rules same-tokens f g h =
           let over = puts e in

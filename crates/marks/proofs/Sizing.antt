@@ -1,12 +1,12 @@
 -- The loop that decides whether the result fits: what holds before each turn.
-use Prim.Native.Nat.{ℕ, ◌+◌, ◌-◌, ◌*◌, ◌≤◌, ◌<◌}
+use Prim.Native.Nat.{ℕ, ◌+◌, ◌-◌, ◌≤◌, ◌<◌}
 use mathlib.Core.Path.{◌≡◌, sym, ap, subst, ◌∙◌}
-use mathlib.Core.Bool.{Bool, true, false, true≢false}
-use mathlib.Core.List.{List}
+use mathlib.Core.Bool.{Bool, false}
+use mathlib.Core.List.{List, ◌++◌}
 use mathlib.Core.Logic.{dite}
 use native.Mathlib.Decide.{dec_lt, ℕ_discrete}
 use native.Mathlib.Omega.{arith}
-use lib.ListN.{length, get_or, take}
+use lib.ListN.{length, get_or}
 use Rattle.base.specs.Telling.{Tells, denied}
 use Rattle.strings.specs.Laws.{length_token, length_other}
 use Rattle.marks.specs.Marking.{CanSize}
@@ -14,55 +14,50 @@ use Rattle.marks.specs.Restoring.{
   added_by,
   behind_by,
   needed,
-  records_from,
   Names,
   Listed,
   added_delete,
   added_insert,
   needed_also,
-  needed_none,
+  needed_over,
   listed_first,
-  record_at_lem,
-  records_over,
+  record_first,
 }
 
--- What is left of the room, and what the records passed so far take of it.
-pub record Sizing (edits : List ℕ) (records : ℕ) (lengths : List ℕ) (n room left place i : ℕ) : Type 0 where
-  pub low : i ≤ records
-  pub listed : Listed n place (records_from edits records i)
+-- What is left of the room, and what the records passed so far take of it; `ws` are the words of those to come.
+pub record Sizing (records lengths : List ℕ) (n room left place : ℕ) (ws : List ℕ) : Type 0 where
+  pub listed : Listed n place ws
   pub spent : ℕ
   pub rest : left + spent ≡ room
-  pub sum : spent + needed lengths n place (records_from edits records i) ≡ needed lengths n 0 (records_from edits records 0)
+  pub sum : spent + needed lengths n place ws ≡ needed lengths n 0 records
 
-pub size_begins : {edits : List ℕ} {records : ℕ} {lengths : List ℕ} {n room : ℕ} → CanSize edits records lengths n
-    → Sizing edits records lengths n room room 0 0
-size_begins can = record { low = omega arith; listed = can.listed; spent = 0; rest = omega arith; sum = omega arith }
+pub size_begins : {records lengths : List ℕ} {n room : ℕ} → CanSize records lengths n → Sizing records lengths n room room 0 records
+size_begins can = record { listed = can.listed; spent = 0; rest = omega arith; sum = omega arith }
 
--- The words of record i.
-abbrev pub kind_of : List ℕ → ℕ → ℕ
-kind_of edits i = get_or edits (3 * i) 0
+-- The words of a record.
+abbrev pub kind_of : List ℕ → ℕ
+kind_of x = get_or x 0 0
 
-abbrev pub place_of : List ℕ → ℕ → ℕ
-place_of edits i = get_or edits (3 * i + 1) 0
+abbrev pub place_of : List ℕ → ℕ
+place_of x = get_or x 1 0
 
-abbrev pub symbol_of : List ℕ → ℕ → ℕ
-symbol_of edits i = get_or edits (3 * i + 2) 0
+abbrev pub symbol_of : List ℕ → ℕ
+symbol_of x = get_or x 2 0
 
--- What the next record says, and what is listed behind it.
-pub record Next (edits : List ℕ) (records n place i : ℕ) : Type 0 where
-  pub rises : place ≤ place_of edits i
-  pub within : place_of edits i ≤ n
-  pub names : Names (kind_of edits i) (symbol_of edits i)
-  pub listed : Listed n (behind_by (kind_of edits i) (place_of edits i)) (records_from edits records (i + 1))
+-- What the next record x says, and what is listed behind it.
+pub record Next (n place : ℕ) (x ws : List ℕ) : Type 0 where
+  pub rises : place ≤ place_of x
+  pub within : place_of x ≤ n
+  pub names : Names (kind_of x) (symbol_of x)
+  pub listed : Listed n (behind_by (kind_of x) (place_of x)) ws
 
-pub next_of : (edits : List ℕ) (records n place i : ℕ) → 3 * records ≤ length edits → i < records
-    → Listed n place (records_from edits records i) → Next edits records n place i
-next_of edits records n place i room l listed =
-    let h = listed_first (subst (λ ws. Listed n place ws) (record_at_lem edits records i l room) listed) in
+pub next_of : {n place : ℕ} {ws rest : List ℕ} (x : List ℕ) → ws ≡ x ++ rest → length x ≡ 3 → Listed n place ws → Next n place x rest
+next_of {n} {place} x e three listed =
+    let h = listed_first (subst (λ l. Listed n place l) (record_first x e three) listed) in
     record { rises = h.0; within = h.1; names = h.2; listed = h.3 }
 
 -- No record adds more than 60,000 tokens.
-pub added_small : {edits : List ℕ} {records : ℕ} {lengths : List ℕ} {n k X : ℕ} → CanSize edits records lengths n → Names k X
+pub added_small : {records lengths : List ℕ} {n k X : ℕ} → CanSize records lengths n → Names k X
     → added_by lengths k X ≤ 60000
 added_small {lengths = lengths} {k = k} {X = X} can names =
     dite (ℕ_discrete k 1) (λ e. omega (arith, added_delete lengths X e))
@@ -71,53 +66,39 @@ added_small {lengths = lengths} {k = k} {X = X} can names =
     (λ low. omega (arith, added_insert lengths X n, length_token lengths X low))
     (λ high. omega (arith, added_insert lengths X n, length_other lengths X (omega arith), can.limit (X - 64) (omega (arith, (names n).1)))))
 
-module _ {edits : List ℕ} {records : ℕ} {lengths : List ℕ} {n room left place i : ℕ} (can : CanSize edits records lengths n)
-    (s : Sizing edits records lengths n room left place i) where
-  module _ (l : i < records) where
-    pub size_next : Next edits records n place i
-    size_next = next_of edits records n place i can.room l s.listed
+module _ {records lengths : List ℕ} {n room left place : ℕ} {ws : List ℕ} (s : Sizing records lengths n room left place ws) where
+  module _ (x rest : List ℕ) (e : ws ≡ x ++ rest) (three : length x ≡ 3) where
+    pub size_next : Next n place x rest
+    size_next = next_of x e three s.listed
 
-    parted : needed lengths n place (records_from edits records i)
-        ≡ place_of edits i - place
-        + (added_by lengths (kind_of edits i) (symbol_of edits i)
-        + needed lengths n (behind_by (kind_of edits i) (place_of edits i)) (records_from edits records (i + 1)))
+    parted : needed lengths n place ws
+        ≡ place_of x - place
+        + (added_by lengths (kind_of x) (symbol_of x) + needed lengths n (behind_by (kind_of x) (place_of x)) rest)
     parted =
-        ap (λ ws. needed lengths n place ws) (record_at_lem edits records i l can.room)
-        ∙ needed_also lengths n place (kind_of edits i) (place_of edits i) (symbol_of edits i) (records_from edits records (i + 1))
+        ap (λ l. needed lengths n place l) (record_first x e three)
+        ∙ needed_also lengths n place (kind_of x) (place_of x) (symbol_of x) rest
 
     -- A record that takes more than is left,
-    pub size_over : {size : ℕ} → size ≡ place_of edits i - place + added_by lengths (kind_of edits i) (symbol_of edits i) → left < size
-        → Tells (needed lengths n 0 (records_from edits records 0) ≤ room) false
-    size_over e h = denied (λ f. omega (arith, parted, s.sum, s.rest, e))
+    pub size_over : {size : ℕ} → size ≡ place_of x - place + added_by lengths (kind_of x) (symbol_of x) → left < size
+        → Tells (needed lengths n 0 records ≤ room) false
+    size_over f h = denied (λ g. omega (arith, parted, s.sum, s.rest, f))
 
     -- and one that takes no more.
-    pub size_goes : {size next : ℕ} → size ≡ place_of edits i - place + added_by lengths (kind_of edits i) (symbol_of edits i) → size ≤ left
-        → next ≡ behind_by (kind_of edits i) (place_of edits i) → Sizing edits records lengths n room (left - size) next (i + 1)
-    size_goes {size} {next} e h f =
+    pub size_goes : {size next : ℕ} → size ≡ place_of x - place + added_by lengths (kind_of x) (symbol_of x) → size ≤ left
+        → next ≡ behind_by (kind_of x) (place_of x) → Sizing records lengths n room (left - size) next rest
+    size_goes {size} {next} f h g =
         record {
-          low = omega arith;
-          listed = subst (λ p. Listed n p (records_from edits records (i + 1))) (sym f) size_next.listed;
+          listed = subst (λ p. Listed n p rest) (sym g) size_next.listed;
           spent = s.spent + size;
           rest = omega (arith, s.rest);
-          sum =
-              ap (λ p. s.spent + size + needed lengths n p (records_from edits records (i + 1))) f
-              ∙ omega (arith, parted, s.sum, e);
+          sum = ap (λ p. s.spent + size + needed lengths n p rest) g ∙ omega (arith, parted, s.sum, f);
         }
 
-  last_needed : records ≤ i → needed lengths n place (records_from edits records i) ≡ n - place
-  last_needed l = ap (λ ws. needed lengths n place ws) (records_over edits records i l can.room) ∙ needed_none lengths n place
-
   -- Behind the last record.
-  pub size_passed : records ≤ i → n < place → Tells (needed lengths n 0 (records_from edits records 0) ≤ room) true
-  size_passed l h =
-      record {
-        yes = λ e. omega (arith, last_needed l, s.sum, s.rest);
-        no = λ e. absurd (true≢false e);
-      }
-
-  pub size_ends : records ≤ i → (b : Bool) → Tells (n - place ≤ left) b → Tells (needed lengths n 0 (records_from edits records 0) ≤ room) b
+  pub size_ends : length ws < 3 → (b : Bool) → Tells (n - place ≤ left) b → Tells (needed lengths n 0 records ≤ room) b
   size_ends l b t =
+      let last = needed_over lengths n place ws l in
       record {
-        yes = λ e. let h = t.yes e in omega (arith, last_needed l, s.sum, s.rest);
-        no = λ e f. t.no e (omega (arith, last_needed l, s.sum, s.rest));
+        yes = λ e. let h = t.yes e in omega (arith, last, s.sum, s.rest);
+        no = λ e f. t.no e (omega (arith, last, s.sum, s.rest));
       }

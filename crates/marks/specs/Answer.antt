@@ -1,18 +1,7 @@
--- What the answers mean, and what stands for a mark in the token buffer.
-use Rattle.std.specs.Prelude.{ℕ, ◌+◌, ◌≤◌, ◌<◌, ◌≡◌, List, length, get_or}
+-- What stands for a mark in the token buffer, and whether the result was put there.
+use Rattle.std.specs.Prelude.{ℕ, ◌+◌, ◌≤◌, ◌<◌, ◌≡◌, List, length, get_or, Option, Some, None}
 use Rattle.base.specs.Written.{written}
 use Rattle.grammar.specs.Marks.{Mark}
-use Rattle.grammar.specs.Refusals.{Outcome, given, refused}
-use Rattle.grammar.specs.declared.Counts.{Counts}
-use Rattle.marks.specs.declared.Marking.{Marking}
-use Rattle.marks.specs.declared.Marking.TheVariants.{Marked, Refused}
-use Rattle.marks.specs.declared.Put.{Put}
-use Rattle.marks.specs.declared.Put.TheVariants.{Whole, Short}
-
--- What each answer stands for: the counts of the parse and the number of tokens, or the refusal.
-abbrev pub marking_of : Marking → Outcome (Counts × ℕ)
-marking_of (Marked counts size) = given (counts, size)
-marking_of (Refused r) = refused r
 
 -- What stands for a mark: for a kept one the word that `kept` has at its place, for an added one its token, raised by `raise`.
 unfoldable pub word_by : List ℕ → ℕ → Mark → ℕ
@@ -25,6 +14,6 @@ pub record Named (log kept : List ℕ) (raise : ℕ) : Type 0 where
   pub small : raise ≤ 4096
 
 -- The whole result stands in front of the buffer, and how long it is; or it does not fit.
-unfoldable pub PutOf : List ℕ → List ℕ → List ℕ → Put → Type 0
-PutOf result old tokens (Whole size) = (size ≡ length result) × (length result ≤ length old) × (tokens ≡ written old 0 result)
-PutOf result old tokens Short = length old < length result
+unfoldable pub PutOf : List ℕ → List ℕ → List ℕ → Option ℕ → Type 0
+PutOf result old tokens (Some size) = (size ≡ length result) × (length result ≤ length old) × (tokens ≡ written old 0 result)
+PutOf result old tokens None = length old < length result

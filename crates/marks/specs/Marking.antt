@@ -1,5 +1,5 @@
 -- What the functions ask and give on the way to the result.
-use Rattle.std.specs.Prelude.{ℕ, ◌+◌, ◌-◌, ◌*◌, ◌≤◌, ◌<◌, ◌≡◌, List, map, length, get_or, take, drop}
+use Rattle.std.specs.Prelude.{ℕ, ◌+◌, ◌*◌, ◌≤◌, ◌<◌, ◌≡◌, List, map, length, get_or, take, Option}
 use Rattle.base.specs.Written.{written}
 use Rattle.grammar.specs.Words.{nonterminal_count}
 use Rattle.grammar.specs.Derivation.{All}
@@ -10,25 +10,17 @@ use Rattle.grammar.specs.Marks.{Mark, MarksOf}
 use Rattle.grammar.specs.Theory.Good.{Accepted}
 use Rattle.grammar.specs.Theory.Places.{Walk}
 use Rattle.grammar.specs.Theory.Tables.{Cheap}
-use Rattle.strings.specs.Lengths.{Measured}
-use Rattle.strings.specs.Spelled.{Spells}
+use Rattle.strings.specs.Ready.{Tables}
 use Rattle.marks.specs.Answer.{PutOf, word_by}
 use Rattle.marks.specs.Restored.{Ahead}
-use Rattle.marks.specs.Restoring.{added_words, restored, records_from, Names, Listed}
-use Rattle.marks.specs.declared.Put.{Put}
+use Rattle.marks.specs.Restoring.{added_words, restored, Names, Listed}
 
 -- ---- One record
 
-pub record CanAdd (lengths : List ℕ) (kind symbol : ℕ) : Type 0 where
-  pub size : length lengths ≡ 64
-  pub names : Names kind symbol
-
-pub record CanWrite (table : List ℕ) (depth : ℕ) (lengths : List ℕ) (kind symbol raise : ℕ) (tokens : List ℕ) (at : ℕ) : Type 0 where
-  pub spells : Spells table depth
-  pub measured : Measured table depth lengths
+pub record CanAdd (t : Tables) (kind symbol raise : ℕ) (tokens : List ℕ) (at : ℕ) : Type 0 where
   pub names : Names kind symbol
   pub small : raise ≤ 4096
-  pub room : at + length (added_words table depth raise kind symbol) ≤ length tokens
+  pub room : at + length (added_words t.rights t.depth raise kind symbol) ≤ length tokens
 
 -- What it adds stands in the buffer from `at` on.
 pub record WroteAdded (table : List ℕ) (depth kind symbol raise : ℕ) (old : List ℕ) (at : ℕ) (tokens : List ℕ) (end : ℕ) : Type 0 where
@@ -37,36 +29,26 @@ pub record WroteAdded (table : List ℕ) (depth kind symbol raise : ℕ) (old : 
 
 -- ---- Kept words
 
-pub record CanCopy (kept : List ℕ) (from to : ℕ) (tokens : List ℕ) (at : ℕ) : Type 0 where
-  pub within : to ≤ length kept
-  pub room : at + (to - from) ≤ length tokens
-
-pub record Copied (kept : List ℕ) (from to : ℕ) (old : List ℕ) (at : ℕ) (tokens : List ℕ) (end : ℕ) : Type 0 where
-  pub wrote : tokens ≡ written old at (take (to - from) (drop from kept))
-  pub ends : end ≡ at + (to - from)
+-- The words stand in the buffer from `at` on.
+pub record Copied (part old : List ℕ) (at : ℕ) (tokens : List ℕ) (end : ℕ) : Type 0 where
+  pub wrote : tokens ≡ written old at part
+  pub ends : end ≡ at + length part
 
 -- ---- All records
 
-pub record CanSize (edits : List ℕ) (records : ℕ) (lengths : List ℕ) (n : ℕ) : Type 0 where
-  pub room : 3 * records ≤ length edits
-  pub size : length lengths ≡ 64
+pub record CanSize (records lengths : List ℕ) (n : ℕ) : Type 0 where
   pub limit : (k : ℕ) → k < 64 → get_or lengths k 0 ≤ 60000
-  pub listed : Listed n 0 (records_from edits records 0)
+  pub listed : Listed n 0 records
 
-pub record CanRestore (table : List ℕ) (depth : ℕ) (lengths edits : List ℕ) (records : ℕ) (kept : List ℕ) (raise : ℕ) (tokens : List ℕ)
-    : Type 0 where
-  pub spells : Spells table depth
-  pub measured : Measured table depth lengths
-  pub words : 3 * records ≤ length edits
-  pub listed : Listed (length kept) 0 (records_from edits records 0)
+pub record CanRestore (t : Tables) (records kept : List ℕ) (raise : ℕ) (tokens : List ℕ) : Type 0 where
+  pub listed : Listed (length kept) 0 records
   pub small : raise ≤ 4096
-  pub room : length (restored table depth raise kept 0 (records_from edits records 0)) ≤ length tokens
+  pub room : length (restored t.rights t.depth raise kept 0 records) ≤ length tokens
 
 -- The result stands in front of the buffer.
-pub record RestoredAs (table : List ℕ) (depth : ℕ) (edits : List ℕ) (records : ℕ) (kept : List ℕ) (raise : ℕ) (old tokens : List ℕ)
-    (size : ℕ) : Type 0 where
-  pub wrote : tokens ≡ written old 0 (restored table depth raise kept 0 (records_from edits records 0))
-  pub count : size ≡ length (restored table depth raise kept 0 (records_from edits records 0))
+pub record RestoredAs (table : List ℕ) (depth : ℕ) (records kept : List ℕ) (raise : ℕ) (old tokens : List ℕ) (size : ℕ) : Type 0 where
+  pub wrote : tokens ≡ written old 0 (restored table depth raise kept 0 records)
+  pub count : size ≡ length (restored table depth raise kept 0 records)
 
 -- ---- The result of a run
 
@@ -87,6 +69,6 @@ pub record CanPut (ws prices sides edits : List ℕ) (records : ℕ) (kept : Lis
   pub ran : Ran ws edits records (length kept) moves
 
 -- The marks of the moves are put into the buffer, each as its word, or do not fit.
-pub record PutAs (ws edits : List ℕ) (records : ℕ) (kept : List ℕ) (raise : ℕ) (old tokens : List ℕ) (r : Put) : Type 0 where
+pub record PutAs (ws edits : List ℕ) (records : ℕ) (kept : List ℕ) (raise : ℕ) (old tokens : List ℕ) (r : Option ℕ) : Type 0 where
   pub puts : (ms : List Move) (xs : List Mark) → Ran ws edits records (length kept) ms → MarksOf ws ms xs
       → PutOf (map (word_by kept raise) xs) old tokens r

@@ -1,7 +1,7 @@
 -- The result as the walk over the edit records makes it. `kept` has a word for each place of the log, and `ws` are the words of the records
 -- that are still to come, three for each; p is the first place that is not passed yet.
-use Rattle.std.specs.Prelude.{ℕ, suc, ◌+◌, ◌-◌, ◌*◌, ◌≤◌, ◌<◌, ◌≡◌, refl, Bool, cond, List, [], ◌∷◌, ◌++◌, length, get_or, take, drop, eqb}
-use Rattle.std.proofs.Common.{sym, ap, ap₂, ◌∙◌, arith, eq-eqb, ne_eqb, length-append, length-drop, drop-cons, length-take-le, get_or-take}
+use Rattle.std.specs.Prelude.{ℕ, ◌+◌, ◌-◌, ◌≤◌, ◌<◌, ◌≡◌, refl, Bool, cond, List, [], ◌∷◌, ◌++◌, length, get_or, take, drop, eqb}
+use Rattle.std.proofs.Common.{sym, ap, ap₂, ◌∙◌, arith, eq-eqb, ne_eqb, length-append, length-drop, length-take-le}
 use Rattle.std.proofs.Math.Logic.{dite}
 use Rattle.std.proofs.Math.Decide.{dec_lt, ℕ_discrete}
 use Rattle.strings.specs.Laws.{raised_length, length_token, length_other, spelt_token}
@@ -137,47 +137,29 @@ module _ {table lengths : List ℕ} {depth : ℕ} (m : Measured table depth leng
       ∙ ap₂ (λ a b. a + b) (added_length k X names) (restored_length kept r))
       ∙ sym (needed_also lengths (length kept) p k q X ws)))
 
--- ---- The records in the edit buffer
+-- ---- The records one by one
 
--- The words of the records from record i on, of so many.
-unfoldable pub records_from : List ℕ → ℕ → ℕ → List ℕ
-records_from edits records i = drop (3 * i) (take (3 * records) edits)
+-- The first record of the words, as a part of them,
+pub record_first : {ws rest : List ℕ} (x : List ℕ) → ws ≡ x ++ rest → length x ≡ 3
+    → ws ≡ get_or x 0 0 ∷ get_or x 1 0 ∷ get_or x 2 0 ∷ rest
+record_first [] e l = absurd (omega arith)
+record_first (k ∷ []) e l = absurd (omega arith)
+record_first (k ∷ q ∷ []) e l = absurd (omega arith)
+record_first (k ∷ q ∷ X ∷ []) e l = e
+record_first (k ∷ q ∷ X ∷ y ∷ ys) e l = absurd (omega arith)
 
--- Record i, and those behind it.
-pub record_at_lem : (edits : List ℕ) (records i : ℕ) → i < records → 3 * records ≤ length edits
-    → records_from edits records i
-    ≡ get_or edits (3 * i) 0 ∷ get_or edits (3 * i + 1) 0 ∷ get_or edits (3 * i + 2) 0 ∷ records_from edits records (i + 1)
-unfolding records_from
-record_at_lem edits records i l room =
-    let front : List ℕ = take (3 * records) edits in
-    let size : length front ≡ 3 * records = length-take-le (3 * records) edits room in
-    let at : (j : ℕ) → j < 3 * records → get_or front j 0 ≡ get_or edits j 0 = λ j h. get_or-take (3 * records) edits j 0 h in
-    let first = drop-cons front (3 * i) 0 (omega arith) in
-    let second = drop-cons front (3 * i + 1) 0 (omega arith) in
-    let third = drop-cons front (3 * i + 2) 0 (omega arith) in
-    let two : suc (3 * i) ≡ 3 * i + 1 = omega arith in
-    let three : suc (3 * i + 1) ≡ 3 * i + 2 = omega arith in
-    let next : suc (3 * i + 2) ≡ 3 * (i + 1) = omega arith in
-    first
-    ∙ ap₂ (λ x l. x ∷ l) (at (3 * i) (omega arith))
-    (ap (λ n. drop n front) two
-    ∙ (second
-    ∙ ap₂ (λ x l. x ∷ l) (at (3 * i + 1) (omega arith))
-    (ap (λ n. drop n front) three
-    ∙ (third ∙ ap₂ (λ x l. x ∷ l) (at (3 * i + 2) (omega arith)) (ap (λ n. drop n front) next)))))
+-- and words that are no record.
+pub restored_over : (table : List ℕ) (depth raise : ℕ) (kept : List ℕ) (p : ℕ) (ws : List ℕ) → length ws < 3
+    → restored table depth raise kept p ws ≡ drop p kept
+unfolding restored
+restored_over table depth raise kept p [] l = refl
+restored_over table depth raise kept p (k ∷ []) l = refl
+restored_over table depth raise kept p (k ∷ q ∷ []) l = refl
+restored_over table depth raise kept p (k ∷ q ∷ X ∷ ws) l = absurd (omega arith)
 
-pub records_over : (edits : List ℕ) (records i : ℕ) → records ≤ i → 3 * records ≤ length edits → records_from edits records i ≡ []
-unfolding records_from
-records_over edits records i l room =
-    drop_past (3 * i) (take (3 * records) edits) (omega (arith, length-take-le (3 * records) edits room))
-  where
-    drop_past : (n : ℕ) (l : List ℕ) → length l ≤ n → drop n l ≡ []
-    drop_past n l h = no_length (drop n l) (omega (arith, length-drop n l))
-      where
-        no_length : (l : List ℕ) → length l ≡ 0 → l ≡ []
-        no_length [] e = refl
-        no_length (x ∷ l) e = absurd (omega arith)
-
-pub records_all : (edits : List ℕ) (records : ℕ) → records_from edits records 0 ≡ take (3 * records) edits
-unfolding records_from
-records_all edits records = refl
+pub needed_over : (lengths : List ℕ) (n p : ℕ) (ws : List ℕ) → length ws < 3 → needed lengths n p ws ≡ n - p
+unfolding needed
+needed_over lengths n p [] l = refl
+needed_over lengths n p (k ∷ []) l = refl
+needed_over lengths n p (k ∷ q ∷ []) l = refl
+needed_over lengths n p (k ∷ q ∷ X ∷ ws) l = absurd (omega arith)

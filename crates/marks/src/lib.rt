@@ -2,43 +2,29 @@
 // kept tokens are copied, and for each inserted symbol the string of its cheapest rules is written.
 #![tactic(auto)]
 
-ghost use Rattle.std.specs.Prelude.{true, ◌≡◌, ◌≤◌, ◌<◌, length};
+ghost use Rattle.std.specs.Prelude.{true, ◌≡◌, ◌+◌, ◌≤◌, ◌<◌, length};
 ghost use Rattle.base.specs.Telling.{Tells};
 ghost use Rattle.grammar.specs.Marks.{Marks, MarksAnswer};
+ghost use Rattle.grammar.specs.Refusals.{outcome_of};
 ghost use Rattle.grammar.specs.Run.{only10};
-ghost use Rattle.marks.specs.Answer.{Named, PutOf, marking_of, word_by};
+ghost use Rattle.marks.specs.Answer.{Named, PutOf, word_by};
 ghost use Rattle.marks.specs.Marking.{
   CanAdd,
-  CanCopy,
   CanPut,
   CanRestore,
   CanSize,
-  CanWrite,
   Copied,
   PutAs,
   RestoredAs,
   WroteAdded,
 };
-ghost use Rattle.marks.specs.Restoring.{added_by, behind_by, needed, records_from};
+ghost use Rattle.marks.specs.Restoring.{Names, added_by, behind_by, needed};
 
 use grammar::{Counts, Refusal};
-use parser::{Asking, Parsing};
+use parser::Asking;
+use strings::Strings;
 
-// The answer: the counts of the parse and the number of tokens, or a refusal. `marking_of` of specs/Answer.antt says what each stands for.
-#[derive(Clone, Copy)]
-pub enum Marking {
-    Marked(Counts, usize),
-    Refused(Refusal),
-}
-
-// How many words the result has that was put into the buffer, or that it does not fit.
-#[derive(Clone, Copy)]
-enum Put {
-    Whole(usize),
-    Short,
-}
-
-// "Kind (1 delete, 2 insert)."
+// "Kind (1 delete, 2 insert)." Kept: kinds stand in lent buffers as numbers (C interface).
 const DELETE: u16 = 1;
 
 // Writes the repaired log of a log, from unchecked grammar words, in marks alone: kept tokens, and for each inserted symbol the string that
@@ -50,9 +36,9 @@ pub fn marks(
     edits: &mut [u16],
     rules: &mut [u16],
     tokens: &mut [u16],
-) -> Marking
+) -> Result<(Counts, usize), Refusal>
     ensures { MarksAnswer words.now log.now (length edits.old) (length rules.old)
-        (length tokens.old) (marking_of result) edits.new rules.new tokens.new }
+        (length tokens.old) (outcome_of result) edits.new rules.new tokens.new }
 {
     marks_as(words, log, true, log, 0, edits, rules, tokens)
 }
@@ -68,10 +54,10 @@ pub fn marks_as(
     edits: &mut [u16],
     rules: &mut [u16],
     tokens: &mut [u16],
-) -> Marking
+) -> Result<(Counts, usize), Refusal>
     requires { Named log.now kept.now raise }
     ensures { Marks (word_by kept.now raise) (only10 (asked ≡ true)) words.now log.now
-        (length edits.old) (length rules.old) (length tokens.old) (marking_of result) edits.new
+        (length edits.old) (length rules.old) (length tokens.old) (outcome_of result) edits.new
         rules.new tokens.new }
 {
     let mut prices = [0u32; 256];
@@ -82,8 +68,9 @@ pub fn marks_as(
         paced: true,
     };
     let parsing = parser::parse_tabled(words, log, asking, &mut prices, &mut sides, edits, rules);
+    // Kept: no `?`, as a refusal leaves the tokens zero.
     match parsing {
-        Parsing::Parsed(counts) => {
+        Ok(counts) => {
             let result = put_marks(
                 words,
                 &prices,
@@ -95,21 +82,21 @@ pub fn marks_as(
                 tokens,
             );
             match result {
-                Put::Whole(size) => {
-                    base::clear_words(tokens, size);
-                    Marking::Marked(counts, size)
+                Some(size) => {
+                    base::fill_from(tokens, size, 0);
+                    Ok((counts, size))
                 }
-                Put::Short => {
-                    base::clear_words(edits, 0);
-                    base::clear_words(rules, 0);
-                    base::clear_words(tokens, 0);
-                    Marking::Refused(Refusal::ShortTokens)
+                None => {
+                    base::fill_from(edits, 0, 0);
+                    base::fill_from(rules, 0, 0);
+                    base::fill_from(tokens, 0, 0);
+                    Err(Refusal::ShortTokens)
                 }
             }
         }
-        Parsing::Refused(refusal) => {
-            base::clear_words(tokens, 0);
-            Marking::Refused(refusal)
+        Err(refusal) => {
+            base::fill_from(tokens, 0, 0);
+            Err(refusal)
         }
     }
 }
@@ -126,7 +113,7 @@ fn put_marks(
     kept: &[u16],
     raise: u16,
     tokens: &mut [u16],
-) -> Put
+) -> Option<usize>
     requires { CanPut words.now prices.now sides.now edits.now records kept.now raise }
     ensures { PutAs words.now edits.now records kept.now raise tokens.old
         tokens.new result }
@@ -138,58 +125,53 @@ fn put_marks(
     let mut lengths = [0usize; 64];
     let depth = shape::nonterminal_count(words);
     strings::gather(words, prices, sides, &mut table);
-    strings::lengths(&table, depth, &mut lengths);
-    if fits(edits, records, &lengths, kept.len(), tokens.len()) {} else {
-        return Put::Short;
+    let strings = Strings::new(&table, depth, &mut lengths);
+    let records = &edits[..3 * records];
+    if !fits(records, &strings, kept.len(), tokens.len()) {
+        return None;
     }
-    Put::Whole(restore(&table, depth, &lengths, edits, records, kept, raise, tokens))
+    Some(restore(&strings, records, kept, raise, tokens))
 }
 
 // The result of a log without edits.
-fn put_log(kept: &[u16], tokens: &mut [u16]) -> Put
+fn put_log(kept: &[u16], tokens: &mut [u16]) -> Option<usize>
     ensures { PutOf kept.now tokens.old tokens.new result }
 {
     if tokens.len() < kept.len() {
-        return Put::Short;
+        return None;
     }
-    Put::Whole(copy(kept, 0, kept.len(), tokens, 0))
+    Some(copy(kept, tokens, 0))
 }
 
 // Whether so many words hold the result: decided by the lengths of the strings, before a word is written. What is left of the room is
 // counted down, so that no sum can grow too large.
-fn fits(edits: &[u16], records: usize, lengths: &[usize], tokens: usize, room: usize) -> bool
-    requires { CanSize edits.now records lengths.now tokens }
-    ensures { Tells (needed lengths.now tokens 0 (records_from edits.now records 0) ≤ room) result }
+fn fits(records: &[u16], strings: &Strings<'_>, tokens: usize, room: usize) -> bool
+    requires { CanSize records.now strings.now.lengths tokens }
+    ensures { Tells (needed strings.now.lengths tokens 0 records.now ≤ room) result }
 {
     let mut left = room;
     let mut place = 0;
-    let mut i = 0;
-    while i < records {
-        let kind = edits[3 * i];
-        let at = base::wide(edits[3 * i + 1]);
-        let size = at - place + added(lengths, kind, edits[3 * i + 2]);
+    for record in records.chunks_exact(3) {
+        let at = usize::from(record[1]);
+        let size = at - place + added(strings, record[0], record[2]);
         if left < size {
             return false;
         }
         left -= size;
-        place = behind(kind, at);
-        i += 1;
+        place = behind(record[0], at);
     }
-    if tokens < place {
-        return true;
-    }
-    tokens - place <= left
+    tokens.saturating_sub(place) <= left
 }
 
 // How many tokens a record adds.
-fn added(lengths: &[usize], kind: u16, symbol: u16) -> usize
-    requires { CanAdd lengths.now kind symbol }
-    ensures { result ≡ added_by lengths.now kind symbol }
+fn added(strings: &Strings<'_>, kind: u16, symbol: u16) -> usize
+    requires { Names kind symbol }
+    ensures { result ≡ added_by strings.now.lengths kind symbol }
 {
     if kind == DELETE {
         return 0;
     }
-    strings::length_of(lengths, base::wide(symbol))
+    strings.length_of(usize::from(symbol))
 }
 
 // The first place that a record leaves to be passed: a deleted token is passed by it.
@@ -205,73 +187,52 @@ fn behind(kind: u16, at: usize) -> usize
 
 // Writes the result, which fits, and gives its length.
 fn restore(
-    table: &[u64],
-    depth: usize,
-    lengths: &[usize],
-    edits: &[u16],
-    records: usize,
+    strings: &Strings<'_>,
+    records: &[u16],
     kept: &[u16],
     raise: u16,
     tokens: &mut [u16],
 ) -> usize
-    requires { CanRestore table.now depth lengths.now edits.now records kept.now raise tokens.old }
-    ensures { RestoredAs table.now depth edits.now records kept.now raise tokens.old
-        tokens.new result }
+    requires { CanRestore strings.now records.now kept.now raise tokens.old }
+    ensures { RestoredAs strings.now.rights strings.now.depth records.now kept.now raise
+        tokens.old tokens.new result }
 {
     let mut place = 0;
     let mut end = 0;
-    let mut i = 0;
-    while i < records {
-        let kind = edits[3 * i];
-        let at = base::wide(edits[3 * i + 1]);
-        let next = copy(kept, place, at, tokens, end);
-        end = add(
-            table,
-            depth,
-            lengths,
-            kind,
-            edits[3 * i + 2],
-            raise,
-            tokens,
-            next,
-        );
-        place = behind(kind, at);
-        i += 1;
+    for record in records.chunks_exact(3) {
+        let at = usize::from(record[1]);
+        let next = copy(&kept[place..at], tokens, end);
+        end = add(strings, record[0], record[2], raise, tokens, next);
+        place = behind(record[0], at);
     }
-    copy(kept, place, kept.len(), tokens, end)
+    copy(&kept[place.min(kept.len())..], tokens, end)
 }
 
 // Writes what a record adds, and gives where it ends.
 fn add(
-    table: &[u64],
-    depth: usize,
-    lengths: &[usize],
+    strings: &Strings<'_>,
     kind: u16,
     symbol: u16,
     raise: u16,
     tokens: &mut [u16],
     at: usize,
 ) -> usize
-    requires { CanWrite table.now depth lengths.now kind symbol raise tokens.old at }
-    ensures { WroteAdded table.now depth kind symbol raise tokens.old at tokens.new result }
+    requires { CanAdd strings.now kind symbol raise tokens.old at }
+    ensures { WroteAdded strings.now.rights strings.now.depth kind symbol raise tokens.old at
+        tokens.new result }
 {
     if kind == DELETE {
         return at;
     }
-    strings::spell(table, depth, lengths, symbol, raise, tokens, at)
+    strings.spell(symbol, raise, tokens, at)
 }
 
-// Copies the words from one place up to another into the buffer, and gives where they end.
-fn copy(kept: &[u16], from: usize, to: usize, tokens: &mut [u16], at: usize) -> usize
-    requires { CanCopy kept.now from to tokens.old at }
-    ensures { Copied kept.now from to tokens.old at tokens.new result }
+// Copies words into the buffer from a place on, and gives where they end.
+fn copy(part: &[u16], tokens: &mut [u16], at: usize) -> usize
+    requires { at + length part.now ≤ length tokens.old }
+    ensures { Copied part.now tokens.old at tokens.new result }
 {
-    let mut end = at;
-    let mut i = from;
-    while i < to {
-        tokens[end] = kept[i];
-        end += 1;
-        i += 1;
-    }
+    let end = at + part.len();
+    tokens[at..end].copy_from_slice(part);
     end
 }

@@ -1,12 +1,12 @@
 -- The tables, rule by rule.
---     gather_begins, gather_goes, gather_ends   which rules mention a nonterminal
---     use_begins, use_goes, use_ends            which nonterminals the rules of one mention
+--     gather_begins, gather_goes               which rules mention a nonterminal
+--     use_begins, use_goes                      which nonterminals the rules of one mention
 --     mentions_one, uses_one                    both tables are one
 use Rattle.std.specs.Prelude.{ℕ, ◌+◌, ◌*◌, ◌/◌, ◌%◌, ◌^◌, ◌≤◌, ◌<◌, ◌≡◌, Bool, true, ◌⊎◌, length, get_or}
 use Rattle.std.proofs.Common.{sym, ◌∙◌, subst, inl, inr, ⊎_elim, arith, ext_get_or}
 use mathlib.Core.List.{List}
 use Rattle.base.specs.Choices.{below_or, below_or_at}
-use Rattle.grammar.specs.Words.{rule_count, left_side, RuleSymbol, Shaped}
+use Rattle.grammar.specs.Words.{rule_count, left_side, right_side, RuleSymbol, Shaped}
 use Rattle.grammar.specs.Theory.Members.{all_at}
 use Rattle.grammar.specs.Theory.RightSides.{right_symbols}
 use Rattle.shape.specs.Accessors.{LeftOf}
@@ -41,7 +41,7 @@ no_symbol (RuleSymbol.terminal low high) few some = omega arith
 no_symbol (RuleSymbol.nonterminal low high) few some = omega arith
 
 pub gather_goes : {ws : List ℕ} {p named : ℕ} {old mid new : List ℕ} → Shaped ws → Gathered ws p old → p < rule_count ws → named < 2 ^ 64
-    → Mentioned ws p 0 old mid named → Plain p named mid new → Gathered ws (p + 1) new
+    → Mentioned (right_side ws p) p old mid named → Plain p named mid new → Gathered ws (p + 1) new
 gather_goes {ws} {p} {named} {old} {mid} {new} shaped g counted fits m l =
     record {
       wide = omega (arith, l.size, m.size, g.wide);
@@ -86,9 +86,6 @@ gather_goes {ws} {p} {named} {old} {mid} {new} shaped g counted fits m l =
         subst (λ n. InRow new 64 n) (sym e)
         (l.here (no_members named fits (λ k h. u k (subst (λ n. Mentions ws n k) (sym e) (m.origin k h)))))
 
-pub gather_ends : {ws table : List ℕ} {p n : ℕ} → Gathered ws p table → p ≡ n → Gathered ws n table
-gather_ends {ws} {table} g e = subst (λ m. Gathered ws m table) e g
-
 pub use_begins : {ws uses : List ℕ} → Blank 64 uses → Used ws 0 uses
 use_begins b =
     record {
@@ -100,7 +97,7 @@ use_begins b =
     }
 
 pub use_goes : {ws : List ℕ} {p l named : ℕ} {old new table next : List ℕ} {b : Bool} → Used ws p old → LeftOf ws p l
-    → Mentioned ws p 0 table next named → Added old l named new b → Used ws (p + 1) new
+    → Mentioned (right_side ws p) p table next named → Added old l named new b → Used ws (p + 1) new
 use_goes {ws} {p} {l} {named} {old} {new} u left m a =
     record { size = a.same ∙ u.size; exact = λ k j. (forth k j, back k j) }
   where
@@ -127,9 +124,6 @@ use_goes {ws} {p} {l} {named} {old} {new} u left m a =
         let same : l ≡ k = omega (arith, left.names) in
         subst (λ n. member (get_or new n 0) j ≡ true) same (a.holds j (m.puts j here).1))
         (below_or_at v.rule p v.before)
-
-pub use_ends : {ws uses : List ℕ} {p n : ℕ} → Used ws p uses → p ≡ n → Used ws n uses
-use_ends {ws} {uses} u e = subst (λ m. Used ws m uses) e u
 
 -- ---- Only one answer
 

@@ -1,9 +1,8 @@
 -- What putting a rule into rows does to the table, symbol by symbol.
-use Rattle.std.specs.Prelude.{ℕ, ◌+◌, ◌-◌, ◌*◌, ◌/◌, ◌%◌, ◌≤◌, ◌<◌, ◌≡◌, refl, Bool, true, ◌⊎◌, length, drop}
-use Rattle.std.proofs.Common.{sym, ap, ◌∙◌, subst, inl, inr, ⊎_elim, arith}
-use mathlib.Core.List.{List, [], ◌∷◌, Memᴰ}
-use Rattle.grammar.specs.Words.{right_side}
-use Rattle.shape.specs.Accessors.{SizeOf, SymbolAt, right_none, right_from}
+use Rattle.std.specs.Prelude.{ℕ, ◌+◌, ◌-◌, ◌*◌, ◌/◌, ◌%◌, ◌≤◌, ◌<◌, ◌≡◌, refl, Bool, true, ◌⊎◌, length}
+use Rattle.std.proofs.Common.{sym, ◌∙◌, subst, inl, inr, ⊎_elim, arith}
+use mathlib.Core.List.Memᴰ
+use mathlib.Core.List.{List, [], ◌∷◌, ◌++◌, Memᴰ}
 use Rattle.sets.specs.Bits.{member}
 use Rattle.sets.specs.Operations.{with}
 use Rattle.sets.specs.Laws.{empty_none, with_same, with_keeps, with_cases}
@@ -96,55 +95,50 @@ plain_one put none =
       source = λ s q b m. ⊎_elim inl (λ h. inr (h.0, h.1, none)) (put.source s q b m);
     }
 
--- Rule p was put into the rows of the nonterminals that stand in its right side from symbol i on, and `named` has those.
-pub record Mentioned (ws : List ℕ) (p i : ℕ) (old new : List ℕ) (named : ℕ) : Type 0 where
-  pub inside : i ≤ length (right_side ws p)
+-- Rule p was put into the rows of the nonterminals that stand among these symbols, and `named` has those.
+pub record Mentioned (α : List ℕ) (p : ℕ) (old new : List ℕ) (named : ℕ) : Type 0 where
   pub size : length new ≡ length old
   pub keeps : (s q : ℕ) → InRow old s q → InRow new s q
-  pub puts : (k : ℕ) → Memᴰ (64 + k) (drop i (right_side ws p)) → InRow new k p × (member named k ≡ true)
-  pub source : (s q : ℕ) → s < 65 → InRow new s q → InRow old s q ⊎ (Memᴰ (64 + s) (drop i (right_side ws p)) × (q ≡ p))
-  pub origin : (k : ℕ) → member named k ≡ true → Memᴰ (64 + k) (drop i (right_side ws p))
+  pub puts : (k : ℕ) → Memᴰ (64 + k) α → InRow new k p × (member named k ≡ true)
+  pub source : (s q : ℕ) → s < 65 → InRow new s q → InRow old s q ⊎ (Memᴰ (64 + s) α × (q ≡ p))
+  pub origin : (k : ℕ) → member named k ≡ true → Memᴰ (64 + k) α
 
-no_member : {x : ℕ} {l : List ℕ} → l ≡ [] → Memᴰ x l → ⊥
-no_member e (Memᴰ.head q) = absurd (omega (arith, ap length e))
-no_member e (Memᴰ.tail m) = absurd (omega (arith, ap length e))
-
-pub mention_begins : {ws : List ℕ} {p n : ℕ} {old : List ℕ} → SizeOf ws p n → Mentioned ws p n old old 0
-mention_begins size =
+pub mention_begins : {p : ℕ} {old : List ℕ} → Mentioned [] p old old 0
+mention_begins =
     record {
-      inside = omega (arith, size.is);
       size = refl;
       keeps = λ s q m. m;
-      puts = λ k m. absurd (no_member (right_none size) m);
+      puts = λ k m. absurd (Memᴰ.not-nil m);
       source = λ s q b m. inl m;
       origin = λ k m. absurd (empty_none k m);
     }
 
-pub mention_goes : {ws : List ℕ} {p i x named more : ℕ} {old mid new : List ℕ} → Mentioned ws p i old mid named → 0 < i
-    → SymbolAt ws p (i - 1) x → Named x p named mid new more → Mentioned ws p (i - 1) old new more
-mention_goes {ws} {p} {i} {x} {named} {more} {old} {mid} {new} w some at n =
+-- A member of a list with one more symbol behind it.
+front : {X : ℕ} {α : List ℕ} (x : ℕ) → Memᴰ X α → Memᴰ X (α ++ (x ∷ []))
+front x (Memᴰ.head e) = Memᴰ.head e
+front x (Memᴰ.tail m) = Memᴰ.tail (front x m)
+
+last : {X x : ℕ} (α : List ℕ) → X ≡ x → Memᴰ X (α ++ (x ∷ []))
+last [] e = Memᴰ.head e
+last (y ∷ α) e = Memᴰ.tail (last α e)
+
+either : {X x : ℕ} (α : List ℕ) → Memᴰ X (α ++ (x ∷ [])) → Memᴰ X α ⊎ (X ≡ x)
+either [] (Memᴰ.head e) = inr e
+either [] (Memᴰ.tail m) = absurd (Memᴰ.not-nil m)
+either (y ∷ α) (Memᴰ.head e) = inl (Memᴰ.head e)
+either (y ∷ α) (Memᴰ.tail m) = ⊎_elim (λ h. inl (Memᴰ.tail h)) inr (either α m)
+
+pub mention_goes : {p x named more : ℕ} (α : List ℕ) {old mid new : List ℕ} → Mentioned α p old mid named → Named x p named mid new more
+    → Mentioned (α ++ (x ∷ [])) p old new more
+mention_goes α w n =
     record {
-      inside = omega (arith, w.inside);
       size = n.size ∙ w.size;
       keeps = λ s q m. n.keeps s q (w.keeps s q m);
-      puts = λ k m. puts k (subst (Memᴰ (64 + k)) from m);
+      puts = λ k m.
+          ⊎_elim (λ h. let was = w.puts k h in (n.keeps k _ was.0, n.holds k was.1)) (λ e. n.here k (sym e)) (either α m);
       source = λ s q b m.
           ⊎_elim
-          (λ h. ⊎_elim inl (λ g. inr (subst (Memᴰ (64 + s)) (sym from) (Memᴰ.tail g.0), g.1)) (w.source s q b h))
-          (λ h. inr (subst (Memᴰ (64 + s)) (sym from) (Memᴰ.head (sym h.0)), h.1))
+          (λ h. ⊎_elim inl (λ g. inr (front _ g.0, g.1)) (w.source s q b h)) (λ h. inr (last α (sym h.0), h.1))
           (n.source s q b m);
-      origin = λ k m.
-          subst (Memᴰ (64 + k)) (sym from)
-          (⊎_elim (λ h. Memᴰ.tail (w.origin k h)) (λ e. Memᴰ.head (sym e)) (n.origin k m));
+      origin = λ k m. ⊎_elim (λ h. front _ (w.origin k h)) (λ e. last α (sym e)) (n.origin k m);
     }
-  where
-    from : drop (i - 1) (right_side ws p) ≡ x ∷ drop i (right_side ws p)
-    from = right_from some w.inside at
-
-    puts : (k : ℕ) → Memᴰ (64 + k) (x ∷ drop i (right_side ws p)) → InRow new k p × (member more k ≡ true)
-    puts k (Memᴰ.head e) = n.here k (sym e)
-    puts k (Memᴰ.tail m) = let h = w.puts k m in (n.keeps k p h.0, n.holds k h.1)
-
-pub mention_ends : {ws : List ℕ} {p i named : ℕ} {old new : List ℕ} → Mentioned ws p i old new named → i ≡ 0
-    → Mentioned ws p 0 old new named
-mention_ends {ws} {p} {named = named} {old} {new} w e = subst (λ n. Mentioned ws p n old new named) e w

@@ -1,14 +1,16 @@
 // Which rules mention a nonterminal, and which nonterminals the rules of one mention: made once for the whole check, so that a set or a
 // cost that changes sends it to those rules alone. A set of rules is a row of bits, 64 in a word; word w of row r stands at 65 w + r, so that
 // 64 rules take 65 words and 256 take 260.
+// Kept: one list of words and no rows of their own, since its length alone says for how many rules it has room.
 #![tactic(auto)]
 
-ghost use Rattle.std.specs.Prelude.{◌≡◌, ◌<◌};
-ghost use Rattle.grammar.specs.Words.{rule_count};
-ghost use Rattle.shape.specs.Ready.{Ready};
+ghost use Rattle.std.specs.Prelude.{◌≡◌, ◌<◌, ◌^◌, ℕ, get_or};
+ghost use Rattle.grammar.specs.Words.{right_side, rule_count};
 ghost use Rattle.base.specs.Blank.{Blank};
 ghost use Rattle.mentions.specs.Mentions.{Clear, MentionsOf, UsesOf, Wide};
 ghost use Rattle.mentions.specs.Putting.{HasWord, Mentioned, Named, Plain, Put};
+
+use shape::rules::Rules;
 
 // How many rows there are, and which one has the rules that mention no nonterminal.
 pub const ROWS: usize = 65;
@@ -17,37 +19,32 @@ pub const NOTHING: usize = 64;
 
 // Fills both tables, which hold nothing: of the first, row k has the rules that mention nonterminal k, row 64 those that mention none; of
 // the second, set k has the nonterminals that the rules of k mention.
-pub fn gather(words: &[u16], places: &[u16], table: &mut [u64], uses: &mut [u64])
-    requires ready { Ready words.now places.now }
+pub fn gather(rules: &Rules<'_>, table: &mut [u64], uses: &mut [u64])
     requires clear { Clear table.old }
-    requires wide { Wide words.now table.old }
+    requires wide { Wide rules.now table.old }
     requires blank { Blank 64 uses.old }
-    ensures mentions_of { MentionsOf words.now table.new }
-    ensures uses_of { UsesOf words.now uses.new }
+    ensures mentions_of { MentionsOf rules.now table.new }
+    ensures uses_of { UsesOf rules.now uses.new }
+    ensures fits { (k : ℕ) → get_or uses.new k 0 < 2 ^ 64 }
 {
-    let count = shape::rule_count(words);
-    let mut p = 0;
-    while p < count {
-        let named = mention(words, places, p, table);
+    for p in 0..rules.rule_count() {
+        let named = mention(rules, p, table);
         put_plain(table, p, named);
-        growth::add_to(uses, shape::left_of(words, places, p) as usize, named);
-        p += 1;
+        growth::add_to(uses, usize::from(rules.left_of(p)), named);
     }
 }
 
 // Puts rule p into the row of each nonterminal that it mentions, and gives those. One that it mentions twice is put there twice, which
 // changes nothing.
-fn mention(words: &[u16], places: &[u16], p: usize, table: &mut [u64]) -> u64
-    requires ready { Ready words.now places.now }
-    requires p_bound { p < rule_count words.now }
-    requires wide { Wide words.now table.old }
-    ensures { Mentioned words.now p 0 table.old table.new result }
+fn mention(rules: &Rules<'_>, p: usize, table: &mut [u64]) -> u64
+    requires p_bound { p < rule_count rules.now }
+    requires wide { Wide rules.now table.old }
+    ensures { Mentioned (right_side rules.now p) p table.old table.new result }
 {
     let mut named = 0;
-    let mut i = shape::size_of(words, places, p);
-    while 0 < i {
-        i -= 1;
-        named = name(table, shape::symbol_at(words, places, p, i), p, named);
+    let symbols = rules.right_side(p);
+    for &x in symbols {
+        named = name(table, x, p, named);
     }
     named
 }
@@ -61,7 +58,7 @@ fn name(table: &mut [u64], x: u16, p: usize, named: u64) -> u64
     if x < 64 {
         return named;
     }
-    put(table, (x - 64) as usize, p);
+    put(table, usize::from(x - 64), p);
     sets::with(named, x - 64)
 }
 

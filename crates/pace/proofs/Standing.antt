@@ -1,15 +1,15 @@
 -- That each place keeps what a watch knows: what spoils there, then its closing mark, then its opening mark.
-use Rattle.std.specs.Prelude.{◌≡◌, ℕ, ◌+◌, ◌<◌, ◌≤◌, Bool, true, false, cond, List, slice_index}
+use Rattle.std.specs.Prelude.{◌≡◌, ℕ, ◌+◌, ◌<◌, ◌≤◌, Bool, true, false, cond, List, slice_index, Option, Some, None}
 use Rattle.std.proofs.Math.Path.{refl, ap, subst}
-use Rattle.std.proofs.Common.{sym, ◌∙◌, true≢false, arith}
-use Rattle.std.proofs.lemmas.Bool.{false≢true}
+use Rattle.std.proofs.Common.{sym, ◌∙◌, arith}
 use Rattle.std.proofs.Math.Logic.{⊎_elim}
 use Rattle.base.specs.Telling.{Tells}
 use Rattle.grammar.specs.Moves.{Move}
 use Rattle.grammar.specs.Pace.{Kept, Span, Clean, wrapped, cycle_ms}
 use Rattle.pace.specs.Found.{Found, found_start, found_none, found_one}
 use Rattle.pace.specs.Order.{below_or_not, below_next}
-use Rattle.pace.specs.Watch.{spoiled_by, closed_by, opened_by, step_by}
+use Rattle.pace.specs.Few.{none_some}
+use Rattle.pace.specs.Watch.{spoiled_by, counted, closed_by, opened_by, step_by}
 use Rattle.pace.specs.declared.Watch.{Watch}
 use Rattle.pace.specs.Standing.{Spoils, OpenAt, Standing}
 
@@ -17,11 +17,11 @@ use Rattle.pace.specs.Standing.{Spoils, OpenAt, Standing}
 
 module _ (o c m : ℕ) (ticks : List ℕ) (ms : List Move) (apart : 1 ≤ m → (p : ℕ) → Kept ms p c → Kept ms p m → ⊥) where
   -- Nothing is found before the first place.
-  pub standing_start : (since : ℕ) → Standing o c m ticks ms 0 0 0 0 (record { begun = false; since = since; count = 0; sum = 0 })
-  standing_start since =
+  pub standing_start : Standing o c m ticks ms 0 0 0 0 (record { since = None; count = 0; sum = 0 })
+  standing_start =
       record {
         found = found_start o c m ticks ms;
-        begun = λ e. absurd (false≢true e);
+        begun = λ t e. absurd (none_some e);
         idle = λ e a h. omega (arith, h.earlier);
       }
 
@@ -33,14 +33,14 @@ module _ (o c m : ℕ) (ticks : List ℕ) (ms : List Move) (apart : 1 ≤ m → 
     stage_spoils true w t s =
         record {
           found = s.found;
-          begun = λ e. absurd (false≢true e);
+          begun = λ t e. absurd (none_some e);
           idle = λ e a h. h.unspoiled b h.earlier (omega arith) (t.yes refl);
         }
     stage_spoils false w t s =
         record {
           found = s.found;
-          begun = λ e.
-              let h = s.begun e in
+          begun = λ u e.
+              let h = s.begun u e in
               let k = h.1 in (
                 h.0,
                 record {
@@ -117,15 +117,15 @@ module _ (o c m : ℕ) (ticks : List ℕ) (ms : List Move) (apart : 1 ≤ m → 
         (below_or_not a d)
 
     -- Then the closing mark: it counts the open cycle, and ends it.
-    close_begun : (tick : ℕ) (w : Watch) → tick ≡ slice_index ticks b → Kept ms b c → w.begun ≡ true
+    close_begun : (tick since : ℕ) (w : Watch) → tick ≡ slice_index ticks b → Kept ms b c → w.since ≡ Some since
         → Standing o c m ticks ms b b b (b + 1) w
-        → Found o c m ticks ms (b + 1) (w.count + 1) (w.sum + wrapped w.since tick)
+        → Found o c m ticks ms (b + 1) (w.count + 1) (w.sum + wrapped since tick)
     unfolding cycle_ms
-    close_begun tick w t k e s =
-        let h = s.begun e in
+    close_begun tick since w t k e s =
+        let h = s.begun since e in
         let u : Span = record { opened = h.0; closed = b } in
-        let since = h.2 in
-        let time : wrapped (slice_index ticks h.0) (slice_index ticks b) ≡ wrapped w.since tick = cc in
+        let from = h.2 in
+        let time : wrapped (slice_index ticks h.0) (slice_index ticks b) ≡ wrapped since tick = cc in
         subst (λ (z : ℕ). Found o c m ticks ms (b + 1) (w.count + 1) (w.sum + z)) time
         (found_one o c m ticks ms b u refl (open_clean h.0 h.1 k)
         (λ v y d.
@@ -140,23 +140,19 @@ module _ (o c m : ℕ) (ticks : List ℕ) (ms : List Move) (apart : 1 ≤ m → 
     stage_close : (tick : ℕ) (w : Watch) → tick ≡ slice_index ticks b → Kept ms b c → Standing o c m ticks ms b b b (b + 1) w
         → Standing o c m ticks ms (b + 1) b (b + 1) (b + 1) (closed_by tick w)
     unfolding closed_by
-    stage_close tick w t k s = go w.begun refl
+    stage_close tick w t k s = go w.since refl
       where
-        go : (q : Bool) → w.begun ≡ q
-            → Standing o c m ticks ms (b + 1) b (b + 1) (b + 1)
-            (cond q
-            (record { begun = false; since = w.since; count = w.count + 1; sum = w.sum + wrapped w.since tick })
-            w)
-        go true e =
+        go : (q : Option ℕ) → w.since ≡ q → Standing o c m ticks ms (b + 1) b (b + 1) (b + 1) (counted q tick w)
+        go (Some since) e =
             record {
-              found = close_begun tick w t k e s;
-              begun = λ f. absurd (false≢true f);
+              found = close_begun tick since w t k e s;
+              begun = λ t f. absurd (none_some f);
               idle = λ f. ended k;
             }
-        go false e =
+        go None e =
             record {
               found = found_none o c m ticks ms b (λ v y d. s.idle e v.opened (clean_open v y d)) s.found;
-              begun = λ f. absurd (true≢false (sym f ∙ e));
+              begun = λ t f. absurd (none_some (sym e ∙ f));
               idle = λ f. ended k;
             }
 
@@ -167,8 +163,8 @@ module _ (o c m : ℕ) (ticks : List ℕ) (ms : List Move) (apart : 1 ≤ m → 
     stage_closing false tick w t n s =
         record {
           found = found_none o c m ticks ms b (λ v y d. n.no refl (subst (λ q. Kept ms q c) d y.cycle.closes)) s.found;
-          begun = λ e.
-              let h = s.begun e in
+          begun = λ t e.
+              let h = s.begun t e in
               let k = h.1 in (
                 h.0,
                 record {
@@ -235,13 +231,13 @@ module _ (o c m : ℕ) (ticks : List ℕ) (ms : List Move) (apart : 1 ≤ m → 
     stage_opening true tick w t l k s =
         record {
           found = s.found;
-          begun = λ e. (b, opened_here (l refl) (k.yes refl), t);
-          idle = λ e. absurd (true≢false e);
+          begun = λ u e. let same : tick ≡ u = cc in (b, opened_here (l refl) (k.yes refl), sym same ∙ t);
+          idle = λ e. absurd (none_some (sym e));
         }
     stage_opening false tick w t l n s =
         record {
           found = s.found;
-          begun = λ e. let h = s.begun e in (h.0, open_still h.0 (n.no refl) h.1, h.2);
+          begun = λ u e. let h = s.begun u e in (h.0, open_still h.0 (n.no refl) h.1, h.2);
           idle = λ e a k.
               ⊎_elim
               (λ m. s.idle e a (open_before a m k))

@@ -1,6 +1,6 @@
 -- What the pass over the places keeps: the cursor stands before the records of the place, the cycles are few, and the watch
 -- stands at the place, whichever run it was that left these edits.
-use Rattle.std.proofs.Common.{◌≡◌, ℕ, ◌+◌, ◌<◌, ◌≤◌, Bool, true, false, not, ◌&&◌, ◌||◌, eqb, List, length, get_or, sym, refl, ap, ◌∙◌, subst, arith, eqb-true}
+use Rattle.std.proofs.Common.{◌≡◌, ℕ, ◌+◌, ◌<◌, ◌≤◌, Bool, true, false, not, ◌&&◌, ◌||◌, eqb, List, length, get_or, sym, refl, ap, ◌∙◌, subst, arith, eqb-true, None}
 use mathlib.Core.Bool.{false≢true}
 use Rattle.grammar.specs.Words.{opening, closing, restart_mark}
 use Rattle.grammar.specs.Moves.{Move}
@@ -34,7 +34,7 @@ opens_marked t o true l e = absurd (false≢true e)
 opens_marked t o false l e = omega (arith, eqb-true t o e)
 
 pub watching_start : {ws log ticks words : List ℕ} {records : ℕ} → Lent ws log ticks words records
-    → Watching ws log ticks words records (record { begun = false; since = 0; count = 0; sum = 0 }) 0 0
+    → Watching ws log ticks words records (record { since = None; count = 0; sum = 0 }) 0 0
 watching_start {ws} {log} {ticks} {words} {records} lent =
     record {
       lent = lent;
@@ -46,9 +46,9 @@ watching_start {ws} {log} {ticks} {words} {records} lent =
             before = λ i l. absurd (omega arith);
             onward = λ i l h. omega arith;
           };
-      few = few_start 0;
+      few = few_start;
       standing = λ ms ran.
-          standing_start (opening ws) (closing ws) (restart_mark ws) ticks ms (marks_apart ws log words records ms ran) 0;
+          standing_start (opening ws) (closing ws) (restart_mark ws) ticks ms (marks_apart ws log words records ms ran);
     }
 
 module _ {ws log ticks words : List ℕ} {records : ℕ} {watch : Watch} {at place : ℕ}

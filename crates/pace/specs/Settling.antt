@@ -1,12 +1,12 @@
 -- From the parse to the report: it asks for as many ticks as tokens and that the unit is not 1, and what it leaves is what the parse
 -- leaves.
-use Rattle.std.specs.Prelude.{◌≡◌, ℕ, Bool, true, false, not, List, [], length, ◌==◌, ◌≢◌}
+use Rattle.std.specs.Prelude.{◌≡◌, ℕ, Bool, true, false, not, List, [], length, ◌==◌, ◌≢◌, Result, Ok, Err}
 use Rattle.std.proofs.Math.Path.{refl, ap, subst}
 use Rattle.std.proofs.Common.{sym, ◌∙◌, true≢false, eqb-true, eq-eqb}
 use Rattle.base.specs.Telling.{Tells, told, denied, tells_unique}
 use Rattle.grammar.specs.Words.{tick_unit, UnitOne}
 use Rattle.grammar.specs.Moves.{Move}
-use Rattle.grammar.specs.Refusals.{Outcome, given, refused}
+use Rattle.grammar.specs.Refusals.{Outcome, given, refused, outcome_of}
 use Rattle.grammar.specs.Run.{RunOf, Settled, run_conditions, Parses, ParsedAsking, counts_of, answered, left}
 use Rattle.grammar.specs.Pace.{timed, Reports, Reported, ReportsBy}
 use Rattle.grammar.specs.declared.Refusal.{Refusal}
@@ -19,12 +19,8 @@ use Rattle.grammar.proofs.Theory.Headers.{unit_one}
 use Rattle.grammar.specs.Theory.Outcomes.{given_refused, given_same, refused_same}
 use Rattle.pace.specs.Ended.{ran_records}
 use Rattle.pace.specs.Watch.{Ran, Lent, Finds}
-use Rattle.pace.specs.Answer.{paced_of}
-use Rattle.pace.specs.declared.Paced.TheVariants as Paced
 use Rattle.parser.specs.Asking.{asks_by}
-use Rattle.parser.specs.Runs.{parsing_of}
 use Rattle.parser.specs.declared.Asking.{Asking}
-use Rattle.parser.specs.declared.Parsing.{Parsing}
 
 -- The run of a parse that answered with counts, and what it left.
 pub record Whole (ws log ticks : List ℕ) (edit_room rule_room : ℕ) (counts : Counts) (x y : List ℕ) : Type 0 where
@@ -34,9 +30,9 @@ pub record Whole (ws log ticks : List ℕ) (edit_room rule_room : ℕ) (counts :
   pub ran : Ran ws log x counts.records moves
   pub counted : counts ≡ counts_of moves
 
-module _ (ticks : List ℕ) (answer : Parsing) {ws log : List ℕ} {edit_room rule_room : ℕ} {asking : Asking} {one : Bool} {x y : List ℕ}
+module _ (ticks : List ℕ) (answer : Result Counts Refusal) {ws log : List ℕ} {edit_room rule_room : ℕ} {asking : Asking} {one : Bool} {x y : List ℕ}
     (ticked : asking.timed ≡ (length ticks == length log)) (paced : asking.paced ≡ not one) (unit : Tells (UnitOne ws) one)
-    (parsed : ParsedAsking (asks_by asking) ws log edit_room rule_room (parsing_of answer) x y) where
+    (parsed : ParsedAsking (asks_by asking) ws log edit_room rule_room (outcome_of answer) x y) where
   -- The second test tells whether the unit is not 1.
   other_unit : asking.paced ≡ true → tick_unit ws ≢ 1
   other_unit e u = true≢false (sym e ∙ (paced ∙ ap not (tells_unique one true unit (told ((unit_one ws).1 u)))))
@@ -51,9 +47,9 @@ module _ (ticks : List ℕ) (answer : Parsing) {ws log : List ℕ} {edit_room ru
       parsed.parses
 
   -- The parse's refusal is the report's.
-  pub reports_refused : {r : Refusal} → answer ≡ Parsing.Refused r → Reported ws log ticks edit_room rule_room (paced_of (Paced.Refused r)) x y
-  unfolding parsing_of answered
-  reports_refused {r} e = go parsed.outcome parses (sym (ap parsing_of e) ∙ parsed.answers)
+  pub reports_refused : {r : Refusal} → answer ≡ Err r → Reported ws log ticks edit_room rule_room (outcome_of {A = Report × Counts} (Err r)) x y
+  unfolding answered
+  reports_refused {r} e = go parsed.outcome parses (sym (ap outcome_of e) ∙ parsed.answers)
     where
       go : (o : Outcome (List Move)) → Parses (timed (tick_unit ws) log ticks) ws log edit_room rule_room o x y → refused r ≡ answered o
           → Reported ws log ticks edit_room rule_room (refused r) x y
@@ -62,9 +58,9 @@ module _ (ticks : List ℕ) (answer : Parsing) {ws log : List ℕ} {edit_room ru
           subst (λ z. Reported ws log ticks edit_room rule_room (refused z) x y) (sym (refused_same a))
           (record { outcome = refused q; parses = p; reports = ReportsBy.unpaced })
 
-  pub whole : {counts : Counts} → answer ≡ Parsing.Parsed counts → Whole ws log ticks edit_room rule_room counts x y
-  unfolding parsing_of answered left
-  whole {counts} e = go parsed.outcome parses (sym (ap parsing_of e) ∙ parsed.answers)
+  pub whole : {counts : Counts} → answer ≡ Ok counts → Whole ws log ticks edit_room rule_room counts x y
+  unfolding answered left
+  whole {counts} e = go parsed.outcome parses (sym (ap outcome_of e) ∙ parsed.answers)
     where
       go : (o : Outcome (List Move)) → Parses (timed (tick_unit ws) log ticks) ws log edit_room rule_room o x y → given counts ≡ answered o
           → Whole ws log ticks edit_room rule_room counts x y
@@ -105,7 +101,7 @@ module _ {ws log ticks : List ℕ} {edit_room rule_room : ℕ} {counts : Counts}
 
   -- The report is that of the cycles.
   pub whole_reports : {report : Report} → Finds ws log ticks x counts.records report
-      → Reported ws log ticks edit_room rule_room (paced_of (Paced.Reported report counts)) x y
+      → Reported ws log ticks edit_room rule_room (outcome_of (Ok (report, counts))) x y
   whole_reports {report} found =
       record {
         outcome = given w.moves;

@@ -1,6 +1,6 @@
 -- What a watch knows before a place: the clean cycles that close before it, and whether a cycle is open there that is clean
 -- so far. Each place keeps this: what spoils there, then its closing mark, then its opening mark.
-use Rattle.std.specs.Prelude.{◌≡◌, ℕ, ◌<◌, ◌≤◌, true, false, List, slice_index}
+use Rattle.std.specs.Prelude.{◌≡◌, ℕ, ◌<◌, ◌≤◌, List, slice_index, Some, None}
 use Rattle.grammar.specs.Moves.{Move}
 use Rattle.grammar.specs.Pace.{Kept, Edited}
 use Rattle.pace.specs.Found.{Found}
@@ -24,5 +24,5 @@ pub record OpenAt (o c m : ℕ) (ms : List Move) (x y e a : ℕ) : Type 0 where
 -- The watch stands at b: what it found, with its sum in ticks, and whether a cycle is open.
 pub record Standing (o c m : ℕ) (ticks : List ℕ) (ms : List Move) (b x y e : ℕ) (w : Watch) : Type 0 where
   pub found : Found o c m ticks ms b w.count w.sum
-  pub begun : w.begun ≡ true → (a : ℕ) × OpenAt o c m ms x y e a × (w.since ≡ slice_index ticks a)
-  pub idle : w.begun ≡ false → (a : ℕ) → OpenAt o c m ms x y e a → ⊥
+  pub begun : (t : ℕ) → w.since ≡ Some t → (a : ℕ) × OpenAt o c m ms x y e a × (t ≡ slice_index ticks a)
+  pub idle : w.since ≡ None → (a : ℕ) → OpenAt o c m ms x y e a → ⊥

@@ -1,6 +1,6 @@
 -- What the parts of the report promise to each other: what a watch of the cycles does at each place, and what the cursor in
 -- the edit records stands for.
-use Rattle.std.specs.Prelude.{◌≡◌, ℕ, ◌+◌, ◌-◌, ◌*◌, ◌<◌, ◌≤◌, Bool, true, false, cond, not, ◌&&◌, ◌||◌, List, length, ◌==◌, slice_index}
+use Rattle.std.specs.Prelude.{◌≡◌, ℕ, ◌+◌, ◌-◌, ◌*◌, ◌<◌, ◌≤◌, Bool, cond, not, ◌&&◌, ◌||◌, List, length, ◌==◌, slice_index, Option, Some, None}
 use Rattle.std.proofs.Math.Option.{none}
 use Rattle.base.specs.Telling.{Tells}
 use Rattle.grammar.specs.Words.{Shaped, opening, closing, restart_mark}
@@ -53,18 +53,19 @@ pub record Stands (words : List ℕ) (records p : ℕ) (here : Here) : Type 0 wh
 
 -- An edit spoils the open cycle.
 unfoldable pub spoiled_by : Watch → Watch
-spoiled_by w = record { begun = false; since = w.since; count = w.count; sum = w.sum }
+spoiled_by w = record { since = None; count = w.count; sum = w.sum }
 
 -- A closing mark counts the open cycle, which is clean, with its time in ticks.
+abbrev pub counted : Option ℕ → ℕ → Watch → Watch
+counted None tick w = w
+counted (Some since) tick w = record { since = None; count = w.count + 1; sum = w.sum + wrapped since tick }
+
 unfoldable pub closed_by : ℕ → Watch → Watch
-closed_by tick w =
-    cond w.begun
-    (record { begun = false; since = w.since; count = w.count + 1; sum = w.sum + wrapped w.since tick })
-    w
+closed_by tick w = counted w.since tick w
 
 -- An opening mark opens a cycle.
 unfoldable pub opened_by : ℕ → Watch → Watch
-opened_by tick w = record { begun = true; since = tick; count = w.count; sum = w.sum }
+opened_by tick w = record { since = Some tick; count = w.count; sum = w.sum }
 
 -- A place is passed: first what spoils there, then the closing mark, then the opening mark. A mark that is both does both.
 unfoldable pub step_by : Bool → Bool → Bool → ℕ → Watch → Watch
@@ -94,7 +95,7 @@ pub record Small (w : Watch) : Type 0 where
 pub record Few (places : ℕ) (w : Watch) : Type 0 where
   pub count : w.count ≤ places - 1
   pub sum : w.sum ≤ w.count * 4294967295
-  pub started : w.begun ≡ true → 1 ≤ places
+  pub started : (t : ℕ) → w.since ≡ Some t → 1 ≤ places
 
 -- ---- The run
 

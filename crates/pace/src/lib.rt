@@ -2,11 +2,11 @@
 // edit records, whose places never fall.
 #![tactic(auto)]
 
-ghost use Rattle.std.specs.Prelude.{◌≡◌, ◌+◌, ◌*◌, ◌<◌, ◌≤◌, true, ◌||◌, length, ◌==◌};
+ghost use Rattle.std.specs.Prelude.{◌≡◌, ◌+◌, ◌*◌, ◌<◌, ◌≤◌, not, ◌&&◌, ◌||◌, length, ◌==◌, cond};
 ghost use Rattle.grammar.specs.Words.{Shaped};
 ghost use Rattle.grammar.specs.Pace.{Reported, pace_of, wrapped};
+ghost use Rattle.grammar.specs.Refusals.{outcome_of};
 ghost use Rattle.base.specs.Telling.{Tells};
-ghost use Rattle.pace.specs.Answer.{paced_of};
 ghost use Rattle.pace.specs.Watch.{
   Cursor,
   Finds,
@@ -23,16 +23,9 @@ ghost use Rattle.pace.specs.Watch.{
 };
 
 use grammar::{Counts, Refusal, Report};
-use parser::{Asking, Parsing};
+use parser::Asking;
 
-// The answer: the report with the counts of its parse, or a refusal. `paced_of` of specs/Answer.antt says what each stands for.
-#[derive(Clone, Copy)]
-pub enum Paced {
-    Reported(Report, Counts),
-    Refused(Refusal),
-}
-
-// "Kind (1 delete, 2 insert)."
+// "Kind (1 delete, 2 insert)." Kept: kinds stand in lent buffers as numbers (C interface).
 const DELETE: u16 = 1;
 
 // The marks of a cycle, and the restart mark, 0 where there is none.
@@ -52,17 +45,16 @@ struct Here {
     behind: usize,
 }
 
-// The cycles so far, with the sum of their times in ms. `begun` says that an opening mark was kept at tick `since`, and that
-// behind it no mark and no restart mark was kept and no edit stands: the next closing mark makes a clean cycle.
+// The cycles so far, with the sum of their times in ms. `since` has the tick of an opening mark that was kept, where behind it
+// no mark and no restart mark was kept and no edit stands: the next closing mark makes a clean cycle.
 #[derive(Clone, Copy)]
 struct Watch {
-    begun: bool,
-    since: u32,
+    since: Option<u32>,
     count: u32,
     sum: u64,
 }
 
-// The report of a log, from unchecked grammar words: it runs the parse, asking for as many ticks as tokens and that the unit is not 1, and
+// The report of a log with the counts of its parse, from unchecked grammar words: it runs the parse, asking for as many ticks as tokens and that the unit is not 1, and
 // leaves in the buffers what the parse leaves.
 pub fn report(
     words: &[u16],
@@ -70,22 +62,17 @@ pub fn report(
     ticks: &[u32],
     edits: &mut [u16],
     rules: &mut [u16],
-) -> Paced
+) -> Result<(Report, Counts), Refusal>
     ensures { Reported words.now log.now ticks.now (length edits.old)
-        (length rules.old) (paced_of result) edits.new rules.new }
+        (length rules.old) (outcome_of result) edits.new rules.new }
 {
     let asking = Asking {
         timed: ticks.len() == log.len(),
         paced: !shape::unit_one(words),
     };
-    let parsing = parser::parse_asking(words, log, asking, edits, rules);
-    match parsing {
-        Parsing::Parsed(counts) => {
-            let told = cycles(words, log, ticks, edits, counts.records);
-            Paced::Reported(told, counts)
-        }
-        Parsing::Refused(refusal) => Paced::Refused(refusal),
-    }
+    let counts = parser::parse_asking(words, log, asking, edits, rules)?;
+    let told = cycles(words, log, ticks, edits, counts.records);
+    Ok((told, counts))
 }
 
 // ---- The report of a run that ended
@@ -97,21 +84,17 @@ fn cycles(words: &[u16], log: &[u16], ticks: &[u32], edits: &[u16], records: usi
 {
     let marks = marks_of(words);
     let mut watch = Watch {
-        begun: false,
-        since: 0,
+        since: None,
         count: 0,
         sum: 0,
     };
     let mut at = 0;
-    let mut place = 0;
-    while place < log.len() {
+    for (place, &token) in log.iter().enumerate() {
         let here = here_at(edits, records, at, place);
         at = here.behind;
-        watch = watch.passed(marks, here, log[place], ticks[place]);
-        place += 1;
+        watch = watch.passed(marks, here, token, ticks[place]);
     }
-    let count = watch.count;
-    let sum = watch.sum;
+    let Watch { count, sum, .. } = watch;
     Report {
         count,
         sum,
@@ -146,6 +129,7 @@ fn pace_of(count: u32, sum: u64) -> grammar::Pace
 // ---- The edit records
 
 // What the records say of a place, from the cursor on.
+// Kept: a while, as the cursor goes on from place to place; and its contract speaks of a record by its number.
 fn here_at(edits: &[u16], records: usize, at: usize, place: usize) -> Here
     requires { Cursor edits.now records at place }
     ensures { Stands edits.now records place result }
@@ -170,10 +154,7 @@ fn stands(edits: &[u16], records: usize, i: usize, place: usize) -> bool
     requires { 3 * records ≤ length edits.now }
     ensures { Tells ((i < records) × (place_at edits.now i ≡ place)) result }
 {
-    if i < records {
-        return place_of(edits, i) == place;
-    }
-    false
+    i < records && place_of(edits, i) == place
 }
 
 // The place of record i.
@@ -181,7 +162,7 @@ fn place_of(edits: &[u16], i: usize) -> usize
     requires { 3 * i + 3 ≤ length edits.now }
     ensures { result ≡ place_at edits.now i }
 {
-    base::wide(edits[3 * i + 1])
+    usize::from(edits[3 * i + 1])
 }
 
 // The kind of record i.
@@ -194,73 +175,72 @@ fn kind_of(edits: &[u16], i: usize) -> u16
 
 // ---- The cycles
 
+impl Here {
+    // Whether the place spoils the cycle that is open there: an edit has it, or its token is the restart mark, which is then kept or the
+    // place edited. No token is 0, so that a restart mark of 0 is none.
+    fn spoils(self, token: u16, restart: u16) -> bool
+        ensures { result ≡ (self.edited || token == restart) }
+    {
+        self.edited || token == restart
+    }
+
+    // Whether the place's token is this mark, and kept.
+    fn keeps(self, token: u16, mark: u16) -> bool
+        ensures { result ≡ (not self.deleted && token == mark) }
+    {
+        !self.deleted && token == mark
+    }
+}
+
 impl Watch {
     // Passes a place: first what spoils a cycle there, then its token where that is kept.
     fn passed(self, marks: Marks, here: Here, token: u16, tick: u32) -> Watch
         requires { Small self }
         ensures { result ≡ passed_by marks here token tick self }
     {
-        let mut watch = self;
-        if spoils(here.edited, token, marks.restart) {
-            watch = watch.spoiled();
-        }
-        if here.deleted {
-            return watch;
-        }
-        // One test, so that the compiler makes no branch of it: where a log closes its cycles cannot be foreseen.
-        if watch.begun && token == marks.closing {
-            watch = watch.closed(tick);
-        }
-        if token == marks.opening {
-            watch = watch.opened(tick);
-        }
-        watch
+        self.spoiled(here.spoils(token, marks.restart))
+            .closed(here.keeps(token, marks.closing), tick)
+            .opened(here.keeps(token, marks.opening), tick)
     }
 
     // An edit or a restart: the open cycle is clean no more.
-    fn spoiled(mut self) -> Watch
-        ensures { result ≡ spoiled_by self }
+    fn spoiled(mut self, spoils: bool) -> Watch
+        ensures { result ≡ cond spoils (spoiled_by self) self }
     {
-        self.begun = false;
+        if spoils {
+            self.since = None;
+        }
         self
     }
 
-    // A closing mark: the open cycle, which is clean, counts.
-    fn closed(mut self, tick: u32) -> Watch
-        requires small { Small self }
-        requires begun_value { self.begun ≡ true }
-        ensures { result ≡ closed_by tick self }
+    // A closing mark: where a cycle is open, which is then clean, it counts.
+    fn closed(mut self, closes: bool, tick: u32) -> Watch
+        requires { Small self }
+        ensures { result ≡ cond closes (closed_by tick self) self }
     {
-        self.begun = false;
-        self.count += 1;
-        self.sum += time(self.since, tick) as u64;
+        // One test, so that the compiler makes no branch of it: where a log closes its cycles cannot be foreseen.
+        if self.since.is_some() && closes {
+            self.count += 1;
+            self.sum += u64::from(time(self.since.unwrap(), tick));
+            self.since = None;
+        }
         self
     }
 
     // An opening mark: a cycle is open from its tick on.
-    fn opened(mut self, tick: u32) -> Watch
-        ensures { result ≡ opened_by tick self }
+    fn opened(mut self, opens: bool, tick: u32) -> Watch
+        ensures { result ≡ cond opens (opened_by tick self) self }
     {
-        self.begun = true;
-        self.since = tick;
+        if opens {
+            self.since = Some(tick);
+        }
         self
     }
-}
-
-// Whether a place spoils the cycle that is open there: an edit has it, or its token is the restart mark, which is then kept or the place
-// edited. No token is 0, so that a restart mark of 0 is none.
-fn spoils(edited: bool, token: u16, restart: u16) -> bool
-    ensures { result ≡ (edited || token == restart) }
-{
-    if edited {
-        return true;
-    }
-    token == restart
 }
 
 // The time of a cycle in ms: "tick b minus tick a modulo 2^32".
 fn time(opened: u32, closed: u32) -> u32
     ensures { result ≡ wrapped opened closed }
 {
-    std::num::wrapping_sub_u32(closed, opened)
+    closed.wrapping_sub(opened)
 }

@@ -1,6 +1,6 @@
 -- An expand: the rule, the two refusals that it can meet, and what it leaves.
 use Prim.Native.Nat.{ℕ, suc, ◌+◌, ◌-◌, ◌*◌, ◌/◌, ◌≤◌, ◌<◌}
-use Rattle.std.specs.Prelude.{◌≡◌, refl, cond, List, [], ◌∷◌, ◌++◌, length, get_or, set, ltb, leb}
+use Rattle.std.specs.Prelude.{◌≡◌, refl, cond, List, [], ◌∷◌, ◌++◌, length, get_or, set, ltb, leb, Result, Ok, Err}
 use Rattle.std.proofs.Common.{sym, ◌∙◌}
 use Rattle.std.proofs.Math.Path.{ap, subst}
 use Rattle.std.proofs.Math.Option.{Option, none, some}
@@ -18,8 +18,6 @@ use Rattle.moves.specs.States.{CanCount, expanded_by}
 use Rattle.moves.specs.declared.Parser.{Parser}
 use Rattle.moves.specs.Windows.{Shows}
 use Rattle.parser.specs.Lookup.{CanLookUp, RuleFor}
-use Rattle.parser.specs.declared.Turned.{Turned}
-use Rattle.parser.specs.declared.Turned.TheVariants.{On, Refused}
 
 -- What an expand needs: a nonterminal on top with the token in its FIRST, right sides of at most 8 bytes, and room to count.
 pub record CanExpand (S : Sized) (sides rows stack : List ℕ) (d : Parser) (top t : ℕ) : Type 0 where
@@ -56,13 +54,13 @@ pub record Expanded (stack rules : List ℕ) (d : Parser) (β : List ℕ) (numbe
   pub front : take q.listed rules' ≡ take d.listed rules ++ (number ∷ [])
 
 -- The window shows the right side.
-unfoldable pub ExpandedOf : Sized → List ℕ → List ℕ → Parser → ℕ → List ℕ → List ℕ → Turned → Type 0
-ExpandedOf S stack rules d t stack' rules' (On q) =
+unfoldable pub ExpandedOf : Sized → List ℕ → List ℕ → Parser → ℕ → List ℕ → List ℕ → Result Parser Refusal → Type 0
+ExpandedOf S stack rules d t stack' rules' (Ok q) =
     (r : Ruled S (get_or stack (d.height - 1) 0) t)
     × (expand_limit (d.height - 1 + length r.right) d.listed (length rules) ≡ none)
     × Expanded stack rules d r.right r.number stack' rules' q
     × Shows q.window (pile stack' q.height)
-ExpandedOf S stack rules d t stack' rules' (Refused x) =
+ExpandedOf S stack rules d t stack' rules' (Err x) =
     (r : Ruled S (get_or stack (d.height - 1) 0) t)
     × (expand_limit (d.height - 1 + length r.right) d.listed (length rules) ≡ some x)
 
@@ -104,19 +102,19 @@ module _ {S : Sized} {sides rows stack : List ℕ} {d : Parser} {top t : ℕ} (c
       ∙ pile_push after at found.right (λ i l. h.above i (omega (arith, size_right, size_low)) ∙ row.symbols i l)
       ∙ ap (λ s. found.right ++ s) (pile_same after stack at h.below)
 
-  pub expand_full : (rules : List ℕ) → 256 < d.height - 1 + size → ExpandedOf S stack rules d t stack rules (Refused StackFull)
+  pub expand_full : (rules : List ℕ) → 256 < d.height - 1 + size → ExpandedOf S stack rules d t stack rules (Err StackFull)
   unfolding ExpandedOf expand_limit ruled
   expand_full rules l = (ruled, rw (sym size_right, lt-ltb 256 (d.height - 1 + size) l))
 
   pub expand_no_room : (rules : List ℕ) → d.height - 1 + size ≤ 256 → length rules ≤ d.listed
-      → ExpandedOf S stack rules d t stack rules (Refused NoRoom)
+      → ExpandedOf S stack rules d t stack rules (Err NoRoom)
   unfolding ExpandedOf expand_limit ruled
   expand_no_room rules l h =
       (ruled, rw (sym size_right, le-ltb 256 (d.height - 1 + size) l, lt-leb (d.listed + 1) (length rules) (omega arith)))
 
   pub expand_on : (rules : List ℕ) {after : List ℕ} {q : Parser} {window : ℕ} → d.height - 1 + size ≤ 256 → d.listed < length rules
       → Pushed rows (128 + 16 * rule) stack (d.height - 1) after → q ≡ expanded_by size window d → window ≡ get_or sides (256 + rule) 0
-      → ExpandedOf S stack rules d t after (set rules d.listed rule) (On q)
+      → ExpandedOf S stack rules d t after (set rules d.listed rule) (Ok q)
   unfolding ExpandedOf expand_limit ruled
   expand_on rules {after} {q} {window} l h p e v =
       let one : d.listed + 1 ≡ suc d.listed = omega arith in

@@ -5,6 +5,7 @@ pub mod Down
 pub mod Steps
 pub mod Turns
 pub mod Runs
+pub mod Grounded
 pub mod Asking
 pub mod Parses
 pub mod Unique

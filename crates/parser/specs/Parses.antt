@@ -1,5 +1,5 @@
 -- The parser's answer: the refusals before the run, the run, and what the buffers then hold.
-use Rattle.std.specs.Prelude.{ℕ, zero, suc, ◌+◌, ◌-◌, ◌*◌, ◌≤◌, ◌<◌, min, max, ◌≡◌, refl, Bool, true, false, List, ◌++◌, length, get_or, take, replicate}
+use Rattle.std.specs.Prelude.{ℕ, ◌+◌, ◌-◌, ◌*◌, ◌≤◌, ◌<◌, min, max, ◌≡◌, refl, Bool, true, List, ◌++◌, length, get_or, take, replicate, Result, Ok, Err}
 use Rattle.std.proofs.Math.Path.{ap, subst}
 use Rattle.std.proofs.Common.{◌∙◌, ⊎_elim, arith, length-take-le}
 use Rattle.std.proofs.Math.Option.{none}
@@ -7,7 +7,7 @@ use Rattle.grammar.specs.Words.{END, Shaped, RuleSymbol, terminal_count, nonterm
 use Rattle.grammar.specs.Buffers.{filled, cleared}
 use Rattle.grammar.specs.Grammar.{grammar_of}
 use Rattle.grammar.specs.Run.{RunOf, LogFits, LogBelow, Asks, only10, run_conditions, Settled, answered, left, ParsedAsking, Parsed}
-use Rattle.grammar.specs.Refusals.{Lowest, Outcome, given, refused}
+use Rattle.grammar.specs.Refusals.{Lowest, Outcome, given, refused, outcome_of, refusal_of}
 use Rattle.grammar.specs.declared.Refusal.{Refusal}
 use Rattle.grammar.specs.declared.Counts.{Counts}
 use Rattle.grammar.specs.Theory.Answered.{conditions_from10}
@@ -16,17 +16,13 @@ use Rattle.grammar.specs.Theory.Conditions.{none_fails, held_front, refused_fron
 use Rattle.grammar.specs.Theory.Good.{accepted, good_words}
 use Rattle.grammar.specs.Theory.Tables.{Inner, sized_of, Cheap, cheap_of}
 use Rattle.base.specs.Blank.{Blank, blank_made}
-use Rattle.base.specs.Telling.{Tells, denied}
+use Rattle.base.specs.Telling.{Tells}
 use Rattle.moves.specs.Tests.{le_or_lt}
-use Rattle.verdict.specs.Answer.{Tabled, check_of, verdict_in}
-use Rattle.verdict.specs.declared.Checked.{Checked}
-use Rattle.verdict.specs.declared.Checked.TheVariants as checked
+use Rattle.verdict.specs.Answer.{Tabled, verdict_in}
 use Rattle.parser.specs.Reached.{Setting}
-use Rattle.parser.specs.Runs.{parsing_of, Ended, CanRun, RanOf}
+use Rattle.parser.specs.Runs.{Ended, CanRun, RanOf}
 use Rattle.parser.specs.Asking.{asks_by}
 use Rattle.parser.specs.declared.Asking.{Asking}
-use Rattle.parser.specs.declared.Parsing.{Parsing}
-use Rattle.parser.specs.declared.Parsing.TheVariants as parsing
 
 -- ---- Refusal 10
 
@@ -59,19 +55,15 @@ module _ {log : List ℕ} where
 
 module _ {T : ℕ} {log : List ℕ} {Asked : Type 0} {i low high : ℕ} (w : Spanned log i low high) (all : length log ≤ i)
     (exactly : i ≤ length log) where
-  -- A token is END,
-  pub log_low : low ≡ END → Tells (LogBelow T log × Asked) false
-  log_low e = denied (λ f. omega (arith, w.lowest 1 (omega arith) (λ k m. f.0.low k (omega arith))))
-
-  -- or every token is in range, where the highest is.
-  pub log_high : (b : Bool) → 1 ≤ T → length log ≤ 4096 → (low ≡ END → ⊥) → Asked → Tells (high < T) b
+  -- Where no token is END, every token is in range where the highest is.
+  pub log_high : (b : Bool) → 1 ≤ T → length log ≤ 4096 → 0 < low → Asked → Tells (high < T) b
       → Tells (LogBelow T log × Asked) b
   log_high b t l n a h =
       record {
         yes = λ e. (
           record {
             count = l;
-            low = λ k m. omega (arith, w.above k (omega arith), not_end low n);
+            low = λ k m. omega (arith, w.above k (omega arith));
             high = λ k m. omega (arith, w.under k (omega arith), h.yes e);
           },
           a,
@@ -79,18 +71,14 @@ module _ {T : ℕ} {log : List ℕ} {Asked : Type 0} {i low high : ℕ} (w : Spa
         no = λ e f.
             h.no e (omega (arith, w.highest (T - 1) (λ k m. omega (arith, f.0.high k (omega arith)))));
       }
-    where
-      not_end : (t : ℕ) → (t ≡ END → ⊥) → 1 ≤ t
-      not_end zero n = absurd (n refl)
-      not_end (suc t) n = omega arith
 
 -- ---- Before the run
 
 -- The run's answer where no condition before it fails; else the refusal.
-unfoldable pub SettledAs : Asks → List ℕ → List ℕ → ℕ → ℕ → List ℕ → List ℕ → Parsing → Type 0
-SettledAs Asked ws log edit_room rule_room edit_buffer rule_buffer (parsing.Parsed counts) =
+unfoldable pub SettledAs : Asks → List ℕ → List ℕ → ℕ → ℕ → List ℕ → List ℕ → Result Counts Refusal → Type 0
+SettledAs Asked ws log edit_room rule_room edit_buffer rule_buffer (Ok counts) =
     Lowest (run_conditions ws log Asked) none × Ended (sized_of ws) log edit_room rule_room counts edit_buffer rule_buffer
-SettledAs Asked ws log edit_room rule_room edit_buffer rule_buffer (parsing.Refused r) =
+SettledAs Asked ws log edit_room rule_room edit_buffer rule_buffer (Err r) =
     Settled (run_conditions ws log Asked) (RunOf ws log edit_room rule_room) (refused r)
 
 -- The sizes of the two tables that a caller lends. In the first nothing stands yet.
@@ -103,24 +91,24 @@ pub lent_made : Lent (replicate 256 0) (replicate 512 0)
 lent_made = record { prices_blank = blank_made 256; sides_size = (blank_made 512).size }
 
 -- Where the log is not refused, the tables have each nonterminal's cheapest rule and the right sides.
-unfoldable pub CheapWhere : List ℕ → List ℕ → List ℕ → Parsing → Type 0
-CheapWhere ws prices sides (parsing.Parsed counts) = Cheap (grammar_of ws) (nonterminal_count ws) prices sides
-CheapWhere ws prices sides (parsing.Refused r) = Unit {0}
+unfoldable pub CheapWhere : List ℕ → List ℕ → List ℕ → Result Counts Refusal → Type 0
+CheapWhere ws prices sides (Ok counts) = Cheap (grammar_of ws) (nonterminal_count ws) prices sides
+CheapWhere ws prices sides (Err r) = Unit {0}
 
-pub cheap_refused : (ws prices sides : List ℕ) (r : Refusal) → CheapWhere ws prices sides (parsing.Refused r)
+pub cheap_refused : (ws prices sides : List ℕ) (r : Refusal) → CheapWhere ws prices sides (Err r)
 unfolding CheapWhere
 cheap_refused ws prices sides r = tt
 
-pub cheap_told : (ws prices sides : List ℕ) {a b : Parsing} → CheapWhere ws prices sides a → a ≡ b → CheapWhere ws prices sides b
+pub cheap_told : (ws prices sides : List ℕ) {a b : Result Counts Refusal} → CheapWhere ws prices sides a → a ≡ b → CheapWhere ws prices sides b
 cheap_told ws prices sides c e = subst (λ x. CheapWhere ws prices sides x) e c
 
-pub cheap_where : (ws prices sides : List ℕ) {a : Parsing} {counts : Counts} → CheapWhere ws prices sides a → a ≡ parsing.Parsed counts
+pub cheap_where : (ws prices sides : List ℕ) {a : Result Counts Refusal} {counts : Counts} → CheapWhere ws prices sides a → a ≡ Ok counts
     → Cheap (grammar_of ws) (nonterminal_count ws) prices sides
 unfolding CheapWhere
 cheap_where ws prices sides c e = cheap_told ws prices sides c e
 
 -- Accepted words, a log that fits and the tables are what a run works from.
-setting_of : {ws log sets prices sides rows : List ℕ} → Tabled ws sets prices sides rows checked.Accepted → LogFits ws log
+setting_of : {ws log sets prices sides rows : List ℕ} → Tabled ws sets prices sides rows (Ok tt) → LogFits ws log
     → Setting (sized_of ws) log sets prices sides rows
 setting_of {ws} {log} t f =
     let a = accepted t.verdict in
@@ -147,35 +135,35 @@ setting_of {ws} {log} t f =
     symbol (RuleSymbol.terminal a b) = Inner.terminal b
     symbol (RuleSymbol.nonterminal a b) = Inner.nonterminal a b
 
-module _ (Asked : Asks) {ws sets prices sides rows : List ℕ} {j : Checked} (t : Tabled ws sets prices sides rows j) where
-  pub check_refuses : (log : List ℕ) (edit_room rule_room : ℕ) (edit_buffer rule_buffer : List ℕ) {r : Refusal} → j ≡ checked.Refused r
-      → SettledAs Asked ws log edit_room rule_room edit_buffer rule_buffer (parsing.Refused r)
+module _ (Asked : Asks) {ws sets prices sides rows : List ℕ} {j : Result (Unit {0}) Refusal} (t : Tabled ws sets prices sides rows j) where
+  pub check_refuses : (log : List ℕ) (edit_room rule_room : ℕ) (edit_buffer rule_buffer : List ℕ) {r : Refusal} → j ≡ Err r
+      → SettledAs Asked ws log edit_room rule_room edit_buffer rule_buffer (Err r)
   unfolding SettledAs
   check_refuses log edit_room rule_room edit_buffer rule_buffer e = Settled.before (refused_front _ (verdict_in t e))
 
-  module _ (passed : j ≡ checked.Accepted) where
+  module _ {u : Unit {0}} (passed : j ≡ Ok u) where
     -- The tables are filled, whatever the run comes to.
-    pub run_cheap : (r : Parsing) → CheapWhere ws prices sides r
+    pub run_cheap : (r : Result Counts Refusal) → CheapWhere ws prices sides r
     unfolding CheapWhere
-    run_cheap (parsing.Parsed counts) = let tables = t.known passed in cheap_of tables.shared tables.pushes
-    run_cheap (parsing.Refused r) = tt
+    run_cheap (Ok counts) = let tables = t.known passed in cheap_of tables.shared tables.pushes
+    run_cheap (Err r) = tt
 
     pub log_can : Shaped ws
     log_can = (accepted (verdict_in t passed)).shaped
 
-    module _ {log : List ℕ} {admitted : Checked} (lowest : Lowest (conditions_from10 Asked ws log) (check_of admitted)) where
+    module _ {log : List ℕ} {admitted : Result (Unit {0}) Refusal} (lowest : Lowest (conditions_from10 Asked ws log) (refusal_of admitted)) where
       -- 10, or what is asked behind it,
-      pub admits_refuses : (edit_room rule_room : ℕ) (edit_buffer rule_buffer : List ℕ) {r : Refusal} → admitted ≡ checked.Refused r
-          → SettledAs Asked ws log edit_room rule_room edit_buffer rule_buffer (parsing.Refused r)
+      pub admits_refuses : (edit_room rule_room : ℕ) (edit_buffer rule_buffer : List ℕ) {r : Refusal} → admitted ≡ Err r
+          → SettledAs Asked ws log edit_room rule_room edit_buffer rule_buffer (Err r)
       unfolding SettledAs
       admits_refuses edit_room rule_room edit_buffer rule_buffer e =
-          Settled.before (held_front (verdict_in t passed) (subst (λ a. Lowest (conditions_from10 Asked ws log) (check_of a)) e lowest))
+          Settled.before (held_front (verdict_in t passed) (subst (λ a. Lowest (conditions_from10 Asked ws log) (refusal_of a)) e lowest))
 
       -- or the run.
-      met : admitted ≡ checked.Accepted → Lowest (run_conditions ws log Asked) none
-      met e = held_front (verdict_in t passed) (subst (λ a. Lowest (conditions_from10 Asked ws log) (check_of a)) e lowest)
+      met : {u : Unit {0}} → admitted ≡ Ok u → Lowest (run_conditions ws log Asked) none
+      met e = held_front (verdict_in t passed) (subst (λ a. Lowest (conditions_from10 Asked ws log) (refusal_of a)) e lowest)
 
-      pub run_can : (stack : List ℕ) → admitted ≡ checked.Accepted → 264 ≤ length stack
+      pub run_can : (stack : List ℕ) {u : Unit {0}} → admitted ≡ Ok u → 264 ≤ length stack
           → CanRun (sized_of ws) log sets prices sides rows stack
       run_can stack e l =
           record {
@@ -183,12 +171,12 @@ module _ (Asked : Asks) {ws sets prices sides rows : List ℕ} {j : Checked} (t 
             cells = l;
           }
 
-      pub run_settles : (edit_room rule_room : ℕ) (edit_buffer rule_buffer : List ℕ) (r : Parsing) → admitted ≡ checked.Accepted
+      pub run_settles : (edit_room rule_room : ℕ) (edit_buffer rule_buffer : List ℕ) (r : Result Counts Refusal) {u : Unit {0}} → admitted ≡ Ok u
           → RanOf (sized_of ws) log edit_room rule_room edit_buffer rule_buffer r
           → SettledAs Asked ws log edit_room rule_room edit_buffer rule_buffer r
       unfolding SettledAs RanOf
-      run_settles edit_room rule_room edit_buffer rule_buffer (parsing.Parsed counts) e x = (met e, x)
-      run_settles edit_room rule_room edit_buffer rule_buffer (parsing.Refused r) e x = Settled.within (met e) x.1
+      run_settles edit_room rule_room edit_buffer rule_buffer (Ok counts) e x = (met e, x)
+      run_settles edit_room rule_room edit_buffer rule_buffer (Err r) e x = Settled.within (met e) x.1
 
 -- ---- The parser's contract
 
@@ -201,27 +189,23 @@ cleared_behind n buffer after room l e f =
     let m : length buffer - n ≡ room - length (take n buffer) = omega (arith, k, e) in
     f ∙ ap (λ i. take n buffer ++ replicate i 0) m
 
-filled_none : (room : ℕ) (b : List ℕ) → filled room (take 0 b) ≡ cleared room
-unfolding filled cleared
-filled_none room b = let e : room - 0 ≡ room = omega arith in ap (λ n. replicate n 0) e
-
 -- What was listed fits.
-pub settled_fits : (Asked : Asks) (ws log edits₀ rules₀ edits' rules' : List ℕ) {answer : Parsing} {counts : Counts}
-    → SettledAs Asked ws log (length edits₀) (length rules₀) edits' rules' answer → answer ≡ parsing.Parsed counts
+pub settled_fits : (Asked : Asks) (ws log edits₀ rules₀ edits' rules' : List ℕ) {answer : Result Counts Refusal} {counts : Counts}
+    → SettledAs Asked ws log (length edits₀) (length rules₀) edits' rules' answer → answer ≡ Ok counts
     → (3 * counts.records ≤ length edits₀) × (counts.listed ≤ length rules₀)
 unfolding SettledAs
 settled_fits Asked ws log edits₀ rules₀ edits' rules' s e =
     let x = subst (λ r. SettledAs Asked ws log (length edits₀) (length rules₀) edits' rules' r) e s in
     (x.1.edits_fit, x.1.rules_fit)
 
-module _ (Asked : Asks) (ws log edits₀ rules₀ edits' rules' : List ℕ) {answer : Parsing}
+module _ (Asked : Asks) (ws log edits₀ rules₀ edits' rules' : List ℕ) {answer : Result Counts Refusal}
     (s : SettledAs Asked ws log (length edits₀) (length rules₀) edits' rules' answer)
     (same-edits : length edits' ≡ length edits₀) (same-rules : length rules' ≡ length rules₀) (edits_after rules_after : List ℕ) where
-  pub parses_counts : {counts : Counts} → answer ≡ parsing.Parsed counts
+  pub parses_counts : {counts : Counts} → answer ≡ Ok counts
       → edits_after ≡ take (3 * counts.records) edits' ++ replicate (length edits' - 3 * counts.records) 0
       → rules_after ≡ take counts.listed rules' ++ replicate (length rules' - counts.listed) 0
-      → ParsedAsking Asked ws log (length edits₀) (length rules₀) (parsing_of (parsing.Parsed counts)) edits_after rules_after
-  unfolding SettledAs parsing_of answered left
+      → ParsedAsking Asked ws log (length edits₀) (length rules₀) (outcome_of (Ok counts)) edits_after rules_after
+  unfolding SettledAs answered left
   parses_counts {counts} e f g =
       let h = subst (λ r. SettledAs Asked ws log (length edits₀) (length rules₀) edits' rules' r) e s in
       let x = h.1 in
@@ -240,20 +224,17 @@ module _ (Asked : Asks) (ws log edits₀ rules₀ edits' rules' : List ℕ) {ans
         answers = ap given x.counted;
       }
 
-  pub parses_refused : {r : Refusal} → answer ≡ parsing.Refused r → edits_after ≡ take 0 edits' ++ replicate (length edits' - 0) 0
-      → rules_after ≡ take 0 rules' ++ replicate (length rules' - 0) 0
-      → ParsedAsking Asked ws log (length edits₀) (length rules₀) (parsing_of (parsing.Refused r)) edits_after rules_after
-  unfolding SettledAs parsing_of answered left
+  pub parses_refused : {r : Refusal} → answer ≡ Err r → edits_after ≡ replicate (length edits') 0 → rules_after ≡ replicate (length rules') 0
+      → ParsedAsking Asked ws log (length edits₀) (length rules₀) (outcome_of (Err r)) edits_after rules_after
+  unfolding SettledAs answered left cleared
   parses_refused {r} e f g =
       record {
         outcome = refused r;
         parses =
             record {
               settled = subst (λ x. SettledAs Asked ws log (length edits₀) (length rules₀) edits' rules' x) e s;
-              leaves_edits =
-                  cleared_behind 0 edits' edits_after (length edits₀) (omega arith) same-edits f ∙ filled_none (length edits₀) edits';
-              leaves_rules =
-                  cleared_behind 0 rules' rules_after (length rules₀) (omega arith) same-rules g ∙ filled_none (length rules₀) rules';
+              leaves_edits = f ∙ ap (λ n. replicate n 0) same-edits;
+              leaves_rules = g ∙ ap (λ n. replicate n 0) same-rules;
             };
         answers = refl;
       }

@@ -1,5 +1,5 @@
 -- The whole run, and the parser's answer.
-use Rattle.std.specs.Prelude.{ℕ, ◌*◌, ◌≤◌, ◌<◌, refl, List, [], ◌∷◌, length, take, set}
+use Rattle.std.specs.Prelude.{ℕ, ◌*◌, ◌≤◌, ◌<◌, refl, List, [], ◌∷◌, length, take, set, Result, Ok, Err}
 use Rattle.std.proofs.Math.Path.{◌≡◌, subst}
 use Rattle.std.proofs.Common.{sym, ap₂, ◌∙◌, arith, length-set, get_or-set_same, get_or-set_other}
 use Rattle.std.proofs.Math.Option.{none}
@@ -8,7 +8,6 @@ use Rattle.grammar.specs.Grammar.{start_over_end}
 use Rattle.grammar.specs.Moves.{Move, edits, edit_words, rule_numbers}
 use Rattle.grammar.specs.Run.{counts_of}
 use Rattle.grammar.specs.Run as Run
-use Rattle.grammar.specs.Refusals.{Outcome, given, refused}
 use Rattle.grammar.specs.declared.Refusal.{Refusal}
 use Rattle.grammar.specs.declared.Counts.{Counts}
 use Rattle.grammar.specs.Theory.Paths.{Path}
@@ -33,15 +32,6 @@ use Rattle.parser.specs.Reached.{
   reached_end,
 }
 use Rattle.parser.specs.Turns.{CanTurn, TurnOf}
-use Rattle.parser.specs.declared.Turned.{Turned}
-use Rattle.parser.specs.declared.Turned.TheVariants.{On, Refused}
-use Rattle.parser.specs.declared.Parsing.{Parsing}
-use Rattle.parser.specs.declared.Parsing.TheVariants as parsing
-
--- What each answer stands for: the counts of moves, edit records and rule numbers, or a refusal.
-unfoldable pub parsing_of : Parsing → Outcome Counts
-parsing_of (parsing.Parsed counts) = given counts
-parsing_of (parsing.Refused r) = refused r
 
 -- What a run needs: its setting, and a stack of 264 cells.
 pub record CanRun (S : Sized) (log masks prices sides rows stack : List ℕ) : Type 0 where
@@ -58,10 +48,10 @@ pub record Ended (S : Sized) (log : List ℕ) (edit_room rule_room : ℕ) (count
   pub edit_front : take (3 * counts.records) edit_buffer ≡ edit_words (edits made)
   pub rule_front : take counts.listed rule_buffer ≡ rule_numbers made
 
-unfoldable pub RanOf : Sized → List ℕ → ℕ → ℕ → List ℕ → List ℕ → Parsing → Type 0
-RanOf S log edit_room rule_room edit_buffer rule_buffer (parsing.Parsed counts) =
+unfoldable pub RanOf : Sized → List ℕ → ℕ → ℕ → List ℕ → List ℕ → Result Counts Refusal → Type 0
+RanOf S log edit_room rule_room edit_buffer rule_buffer (Ok counts) =
     Ended S log edit_room rule_room counts edit_buffer rule_buffer
-RanOf S log edit_room rule_room edit_buffer rule_buffer (parsing.Refused r) = Stopped S log edit_room rule_room r
+RanOf S log edit_room rule_room edit_buffer rule_buffer (Err r) = Stopped S log edit_room rule_room r
 
 -- ---- The loop
 
@@ -122,15 +112,15 @@ module _ {S : Sized} {log masks prices sides rows : List ℕ} (setting : Setting
         shows = r.shows;
       }
 
-  as_lent : (stack' edits' rules' : List ℕ) (turn : Turned)
+  as_lent : (stack' edits' rules' : List ℕ) (turn : Result Parser Refusal)
       → TurnOf S log (length edits) (length rules) p.moves stack' edits' rules' turn
       → TurnOf S log (length edits₀) (length rules₀) p.moves stack' edits' rules' turn
   as_lent stack' edits' rules' turn t =
       subst (λ n. TurnOf S log n (length rules₀) p.moves stack' edits' rules' turn) r.reached.edit_room_lem
       (subst (λ n. TurnOf S log (length edits) n p.moves stack' edits' rules' turn) r.reached.rule_room_lem t)
 
-  pub runs_on : (stack' edits' rules' : List ℕ) {turn : Turned} {q : Parser}
-      → TurnOf S log (length edits) (length rules) p.moves stack' edits' rules' turn → turn ≡ On q → length stack' ≡ length stack
+  pub runs_on : (stack' edits' rules' : List ℕ) {turn : Result Parser Refusal} {q : Parser}
+      → TurnOf S log (length edits) (length rules) p.moves stack' edits' rules' turn → turn ≡ Ok q → length stack' ≡ length stack
       → Runs S log stack₀ edits₀ rules₀ stack' edits' rules' q × (p.moves < q.moves) × (q.moves ≤ 2101250)
   unfolding TurnOf
   runs_on stack' edits' rules' {turn} {q} t e k =
@@ -138,16 +128,16 @@ module _ {S : Sized} {log masks prices sides rows : List ℕ} (setting : Setting
       (as_lent stack' edits' rules' turn t) in
       (record { size = k ∙ r.size; reached = h.0; shows = h.2 }, h.1, moves_low setting h.0)
 
-  pub runs_refused : (stack' edits' rules' : List ℕ) {turn : Turned} {n : Refusal}
-      → TurnOf S log (length edits) (length rules) p.moves stack' edits' rules' turn → turn ≡ Refused n
-      → RanOf S log (length edits₀) (length rules₀) edits' rules' (parsing.Refused n)
+  pub runs_refused : (stack' edits' rules' : List ℕ) {turn : Result Parser Refusal} {n : Refusal}
+      → TurnOf S log (length edits) (length rules) p.moves stack' edits' rules' turn → turn ≡ Err n
+      → RanOf S log (length edits₀) (length rules₀) edits' rules' (Err n)
   unfolding TurnOf RanOf
   runs_refused stack' edits' rules' {turn} t e =
       subst (λ x. TurnOf S log (length edits₀) (length rules₀) p.moves stack' edits' rules' x) e (as_lent stack' edits' rules' turn t)
 
   pub runs_end : p.height ≤ 0
       → RanOf S log (length edits₀) (length rules₀) edits rules
-      (parsing.Parsed (record { moves = p.moves; records = p.records; listed = p.listed }))
+      (Ok (record { moves = p.moves; records = p.records; listed = p.listed }))
   unfolding RanOf words_of
   runs_end l =
       record {

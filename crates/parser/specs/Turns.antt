@@ -1,10 +1,11 @@
 -- A turn of the run: the drops for the current token with the match or the expand that they lead to, or a correction.
-use Rattle.std.specs.Prelude.{ℕ, zero, suc, ◌+◌, ◌-◌, ◌≤◌, ◌<◌, ◌≡◌, true, List, [], ◌∷◌, length, get_or}
+use Rattle.std.specs.Prelude.{ℕ, zero, suc, ◌+◌, ◌-◌, ◌≤◌, ◌<◌, ◌≡◌, true, List, [], ◌∷◌, length, get_or, Option, Some, None, Result, Ok, Err}
 use Rattle.std.proofs.Math.Path.{refl, subst}
 use Rattle.std.proofs.Common.{sym, ap, ◌∙◌, arith, lt-ltb, eqb-true}
 use Rattle.grammar.specs.Words.{Terminal, RuleSymbol}
 use Rattle.grammar.specs.Derivation.{First}
 use Rattle.grammar.specs.Run.{Hit}
+use Rattle.grammar.specs.declared.Refusal.{Refusal}
 use Rattle.grammar.specs.declared.Refusal.TheVariants.{NoRoom}
 use Rattle.grammar.specs.Theory.Reach.{first_append}
 use Rattle.grammar.specs.Theory.Members.{all_get}
@@ -20,9 +21,6 @@ use Rattle.moves.specs.declared.Way.TheVariants.{Fits, Grows, Stuck}
 use Rattle.correction.specs.Tokens.{rest_of, rest_token, token_high}
 use Rattle.correction.specs.Symbols.{symbol_small, pile_cell}
 use Rattle.correction.specs.Corrections.{CanCorrect, Correction, CorrectedOf}
-use Rattle.correction.specs.declared.Corrected.{Corrected}
-use Rattle.correction.specs.declared.Corrected.TheVariants.{Full}
-use Rattle.correction.specs.declared.Corrected.TheVariants as corrected
 use Rattle.parser.specs.Expanding.{CanExpand, Ruled, ExpandedOf}
 use Rattle.parser.specs.Reached.{
   Setting,
@@ -38,8 +36,6 @@ use Rattle.parser.specs.Reached.{
 }
 use Rattle.parser.specs.Down.{fitting_first, stuck_error}
 use Rattle.parser.specs.Steps.{reached_match, reached_down, reached_expand, stopped_expand, reached_correct, stopped_correct}
-use Rattle.parser.specs.declared.Turned.{Turned}
-use Rattle.parser.specs.declared.Turned.TheVariants.{On, Refused}
 
 -- ---- The contract
 
@@ -50,10 +46,10 @@ pub record CanTurn (S : Sized) (log masks prices sides rows stack edits rules : 
   pub shows : Shows p.window (pile stack p.height)
 
 -- The run has come further, by at least one move, with a window there; or it is refused.
-unfoldable pub TurnOf : Sized → List ℕ → ℕ → ℕ → ℕ → List ℕ → List ℕ → List ℕ → Turned → Type 0
-TurnOf S log edit_room rule_room moves stack edits rules (On q) =
+unfoldable pub TurnOf : Sized → List ℕ → ℕ → ℕ → ℕ → List ℕ → List ℕ → List ℕ → Result Parser Refusal → Type 0
+TurnOf S log edit_room rule_room moves stack edits rules (Ok q) =
     Reached S log edit_room rule_room stack edits rules q × (moves < q.moves) × Shows q.window (pile stack q.height)
-TurnOf S log edit_room rule_room moves stack edits rules (Refused r) = Stopped S log edit_room rule_room r
+TurnOf S log edit_room rule_room moves stack edits rules (Err r) = Stopped S log edit_room rule_room r
 
 -- A rule for a token is one for the token that it is.
 unfoldable ruled_as : {S : Sized} {top t u : ℕ} → t ≡ u → Ruled S top t → Ruled S top u
@@ -132,7 +128,7 @@ module _ {S : Sized} {log masks prices sides rows stack edits rules : List ℕ} 
   match_can y e = let fit = (fits_told y e).0 in (counting_down fit, fit.some)
 
   pub turn_match : {way : Way} {d q : Parser} → WayOf masks stack t p way → way ≡ Fits d → q ≡ matched_by d
-      → TurnOf S log (length edits) (length rules) p.moves stack edits rules (On q)
+      → TurnOf S log (length edits) (length rules) p.moves stack edits rules (Ok q)
   unfolding TurnOf
   turn_match {way} {d} {q} y e f =
       let h = fits_told y e in
@@ -181,19 +177,19 @@ module _ {S : Sized} {log masks prices sides rows stack edits rules : List ℕ} 
       byte (RuleSymbol.terminal a b) = omega arith
       byte (RuleSymbol.nonterminal a b) = omega (arith, can.setting.known.nonterminals_high)
 
-  pub turn_expand : {way : Way} {d : Parser} {top : ℕ} (stack' rules' : List ℕ) (turn : Turned) → WayOf masks stack t p way
+  pub turn_expand : {way : Way} {d : Parser} {top : ℕ} (stack' rules' : List ℕ) (turn : Result Parser Refusal) → WayOf masks stack t p way
       → way ≡ Grows d top
       → ExpandedOf S stack rules d t stack' rules' turn
       → TurnOf S log (length edits) (length rules) p.moves stack' edits rules' turn
   unfolding TurnOf ExpandedOf ruled_as
-  turn_expand {way} {d} stack' rules' (On q) w e x =
+  turn_expand {way} {d} stack' rules' (Ok q) w e x =
       let fit = (grows_told w e).0 in
       let u = ruled_as (place_same fit) x.0 in (
         reached_expand (down fit) fit.some (place_within fit) u x.1 x.2,
         omega (arith, fit.dropped.moves, fit.passed.within, x.2.moves),
         x.3,
       )
-  turn_expand {way} {d} stack' rules' (Refused n) w e x =
+  turn_expand {way} {d} stack' rules' (Err n) w e x =
       let fit = (grows_told w e).0 in
       let u = ruled_as (place_same fit) x.0 in
       stopped_expand (down fit) fit.some (place_within fit) n u x.1
@@ -253,9 +249,9 @@ module _ {S : Sized} {log masks prices sides rows stack edits rules : List ℕ} 
           absurd (n (subst (λ σ. First S.grammar.rules σ (get_or log p.place 0)) (sym top)
           (first_append S.grammar.rules f (pile stack (p.height - 1)))))
 
-  pub turn_correct : {way : Way} {found : Corrected} {q u : Parser} (edits' : List ℕ) → WayOf masks stack t p way → way ≡ Stuck
-      → CorrectedOf S log stack edits p edits' found → found ≡ corrected.On q → u ≡ windowless q
-      → TurnOf S log (length edits) (length rules) p.moves stack edits' rules (On u)
+  pub turn_correct : {way : Way} {found : Option Parser} {q u : Parser} (edits' : List ℕ) → WayOf masks stack t p way → way ≡ Stuck
+      → CorrectedOf S log stack edits p edits' found → found ≡ Some q → u ≡ windowless q
+      → TurnOf S log (length edits) (length rules) p.moves stack edits' rules (Ok u)
   unfolding TurnOf CorrectedOf
   turn_correct {way} {found} {q} {u} edits' w e x f g =
       let y = subst (λ z. CorrectedOf S log stack edits p edits' z) f x in
@@ -268,9 +264,9 @@ module _ {S : Sized} {log masks prices sides rows stack edits rules : List ℕ} 
         Shows.nothing refl,
       )
 
-  pub turn_full : {way : Way} {found : Corrected} (edits' : List ℕ) → WayOf masks stack t p way → way ≡ Stuck
-      → CorrectedOf S log stack edits p edits' found → found ≡ Full
-      → TurnOf S log (length edits) (length rules) p.moves stack edits' rules (Refused NoRoom)
+  pub turn_full : {way : Way} {found : Option Parser} (edits' : List ℕ) → WayOf masks stack t p way → way ≡ Stuck
+      → CorrectedOf S log stack edits p edits' found → found ≡ None
+      → TurnOf S log (length edits) (length rules) p.moves stack edits' rules (Err NoRoom)
   unfolding TurnOf CorrectedOf
   turn_full {way} {found} edits' w e x f =
       let y = subst (λ z. CorrectedOf S log stack edits p edits' z) f x in

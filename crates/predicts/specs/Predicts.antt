@@ -1,5 +1,5 @@
 -- The predict set of a rule as a mask: a walk over its right side with FOLLOW of its left side behind it.
-use Rattle.std.specs.Prelude.{ℕ, ◌<◌, ◌≡◌, true, List, ◌⊎◌, ◌↔◌, length, get_or}
+use Rattle.std.specs.Prelude.{ℕ, ◌<◌, ◌≡◌, true, List, ◌⊎◌, ◌↔◌, get_or}
 use Rattle.std.proofs.Common.{sym, subst, inl, inr}
 use Rattle.grammar.specs.Words.{Terminal, rule_count, left_side, right_side}
 use Rattle.grammar.specs.Derivation.{CanBeEmpty, First, Follow, Predict}
@@ -20,25 +20,19 @@ PredictRule ws p t = Predict (RuleOf ws) start_over_end (left_side ws p) (right_
 pub record PredictMask (ws : List ℕ) (p mask : ℕ) : Type 0 where
   pub exact : (t : ℕ) → Terminal t → (member mask t ≡ true) ↔ PredictRule ws p t
 
--- What the predict test works from: exact masks.
-pub record Known (ws places : List ℕ) (null : ℕ) (firsts follows : List ℕ) : Type 0 where
-  pub asked : Asked ws places null firsts
-  pub firsts_exact : FirstsOf ws firsts
-  pub follows_exact : FollowsOf ws follows
-  pub size : length follows ≡ 64
-
 -- The walk finds exactly the predict set.
-pub predict_found : {ws places : List ℕ} {null : ℕ} {firsts follows : List ℕ} → Known ws places null firsts follows → {p k mask : ℕ}
+pub predict_found : {ws : List ℕ} {null : ℕ} {firsts follows : List ℕ} → Asked ws null firsts → FirstsOf ws firsts → FollowsOf ws follows
+    → {p k mask : ℕ}
     → p < rule_count ws → LeftOf ws p k → FirstWith null firsts (get_or follows k 0) (right_side ws p) mask → PredictMask ws p mask
-predict_found {ws} {null = null} {firsts = firsts} {follows = follows} n {p} {k} {mask} h left w =
+predict_found {ws} {null = null} {firsts = firsts} {follows = follows} asked exact fed {p} {k} {mask} h left w =
     record { exact = λ t l. (λ m. to t l ((opens t l).0 ((w.exact t).0 m)), λ d. (w.exact t).1 ((opens t l).1 (from t l d))) }
   where
     opens : (t : ℕ) (l : Terminal t)
         → Opens null firsts (get_or follows k 0) t (right_side ws p)
         ↔ (First (RuleOf ws) (right_side ws p) t ⊎ (CanBeEmpty (RuleOf ws) (right_side ws p) × (member (get_or follows k 0) t ≡ true)))
     opens t l =
-        opens_exact ws n.asked.ready.shaped null n.asked.nulls firsts n.firsts_exact t l
-        (right_symbols ws n.asked.ready.shaped p h)
+        opens_exact ws asked.shaped null asked.nulls firsts exact t l
+        (right_symbols ws asked.shaped p h)
 
     to : (t : ℕ) → Terminal t
         → First (RuleOf ws) (right_side ws p) t ⊎ (CanBeEmpty (RuleOf ws) (right_side ws p) × (member (get_or follows k 0) t ≡ true))
@@ -47,7 +41,7 @@ predict_found {ws} {null = null} {firsts = firsts} {follows = follows} n {p} {k}
     to t l (inr f) =
         Predict.by_follow f.0
         (subst (λ A. Follow (RuleOf ws) start_over_end A t) (sym left.names)
-        ((n.follows_exact.follow k t left.below l).0 f.1))
+        ((fed.follow k t left.below l).0 f.1))
 
     from : (t : ℕ) → Terminal t → PredictRule ws p t
         → First (RuleOf ws) (right_side ws p) t ⊎ (CanBeEmpty (RuleOf ws) (right_side ws p) × (member (get_or follows k 0) t ≡ true))
@@ -55,5 +49,5 @@ predict_found {ws} {null = null} {firsts = firsts} {follows = follows} n {p} {k}
     from t l (Predict.by_follow e f) =
         inr (
           e,
-          (n.follows_exact.follow k t left.below l).1 (subst (λ A. Follow (RuleOf ws) start_over_end A t) left.names f),
+          (fed.follow k t left.below l).1 (subst (λ A. Follow (RuleOf ws) start_over_end A t) left.names f),
         )

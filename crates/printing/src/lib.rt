@@ -3,92 +3,96 @@
 // nothing is printed then.
 #![tactic(auto)]
 
-ghost use Rattle.std.specs.Prelude.{◌≤◌, length};
+ghost use Rattle.std.specs.Prelude.{ℕ, ◌≤◌, length};
 ghost use Rattle.printing.specs.Input.{InputFits, InputKept};
 
-use input::Part;
-use std::io::Read;
-
-// What is known of an input behind its last read: how many of its bytes are kept, or that a read failed.
-#[derive(Clone, Copy)]
-pub enum Input {
-    Kept(usize),
-    Failed,
-}
+use std::io;
+use std::io::{Error, ErrorKind, Read};
 
 // The count, 11 blocks and 4,097 entries: `show` asks for as much.
 const ROOM: usize = 30216;
 
 // Prints the listing of what the reader reads. Where a read or a write fails, standard error gets a line that says so.
-pub fn run<R: Read>(reader: &mut R) {
-    let mut room = [0u8; ROOM];
-    let input = read_input(reader, &mut room);
-    match input {
-        Input::Kept(size) => print(&room, size),
-        Input::Failed => input::tell(b"odhrashup: standard input could not be read\n"),
-    }
+pub fn run<R: Read>(rt: &(impl Print + Eprint), reader: &mut R) {
+    let told = print(
+        rt,
+        reader,
+        "odhrashup: standard input could not be read",
+        "odhrashup: the listing could not be written",
+        |room: &[u8], size: usize| -> io::Result<()>
+            requires in_bounds { 30216 ≤ length room.now }
+            requires size_in_bounds { size ≤ length room.now }
+        { write_listing(rt, room, size) },
+    );
+    // Where that line fails too, nothing is left to be done.
+    let _ = told;
 }
 
 // Prints the marks of what the reader reads, one to a line, in the same way.
-pub fn run_marks<R: Read>(reader: &mut R) {
-    let mut room = [0u8; ROOM];
-    let input = read_input(reader, &mut room);
-    match input {
-        Input::Kept(size) => print_marks(&room, size),
-        Input::Failed => input::tell(b"print_marks: standard input could not be read\n"),
-    }
+pub fn run_marks<R: Read>(rt: &(impl Print + Eprint), reader: &mut R) {
+    let told = print(
+        rt,
+        reader,
+        "print_marks: standard input could not be read",
+        "print_marks: the lines could not be written",
+        |room: &[u8], size: usize| -> io::Result<()>
+            requires in_bounds { 30216 ≤ length room.now }
+            requires size_in_bounds { size ≤ length room.now }
+        { write_marks(rt, room, size) },
+    );
+    let _ = told;
 }
 
-// Prints the listing of an input of which the room holds the first bytes.
-fn print(room: &[u8], size: usize)
+// Writes the listing of an input of which the room holds the first bytes.
+fn write_listing(rt: &impl Print, room: &[u8], size: usize) -> io::Result<()>
     requires in_bounds { 30216 ≤ length room.now }
     requires size_in_bounds { size ≤ length room.now }
 {
     let mut out = [0u8; 155817];
     let count = listing::show(room, size, &mut out);
-    if io::write_all(1, &out[..count]) {
-        return;
-    }
-    input::tell(b"odhrashup: the listing could not be written\n");
+    rt.write_all(&out[..count])
 }
 
-// Prints the marks of such an input.
-fn print_marks(room: &[u8], size: usize)
+// Writes the marks of such an input.
+fn write_marks(rt: &impl Print, room: &[u8], size: usize) -> io::Result<()>
     requires in_bounds { 30216 ≤ length room.now }
     requires size_in_bounds { size ≤ length room.now }
 {
     let mut out = mark_lines::buffer();
     let count = mark_lines::show(room, size, &mut out);
-    if io::write_all(1, &out[..count]) {
-        return;
-    }
-    input::tell(b"print_marks: the lines could not be written\n");
+    rt.write_all(&out[..count])
 }
 
-// Reads the reader's input to its end and keeps as much of it as the room holds. A proved loop has to end, and nothing says that the
-// input does: the turns are more than any input has.
-fn read_input<R: Read>(reader: &mut R, room: &mut [u8]) -> Input
+// Reads the reader's input and has what its first bytes say written; or says that it could not be read, or not be written.
+fn print<R: Read, F: FnOnce(&[u8], usize) -> io::Result<()>>(
+    rt: &impl Eprint,
+    reader: &mut R,
+    unread: &str,
+    unwritten: &str,
+    write: F,
+) -> io::Result<()>
+    requires { (room : _) (size : ℕ) → 30216 ≤ length room.now → size ≤ length room.now → F.pre write room size }
+{
+    let mut room = [0u8; ROOM];
+    let Ok(size) = read_input(reader, &mut room) else {
+        return rt.eprintln(unread);
+    };
+    write(&room, size).or_else(|_| rt.eprintln(unwritten))
+}
+
+// Reads the reader's input to its end, keeps as much of it as the room holds, and gives how much that is. A proved loop has to end, and
+// nothing says that the input does: the turns are more than any input has.
+fn read_input<R: Read>(reader: &mut R, room: &mut [u8]) -> io::Result<usize>
     ensures fits { InputFits room.new result }
     ensures kept { InputKept (R.remaining reader.old) (R.remaining reader.new) room.old room.new result }
 {
-    let mut space = io::large_buffer();
-    let chunk: &mut [u8] = &mut space;
+    let mut space = [0u8; 65536];
     let mut size = 0;
-    let mut turns: u64 = 18446744073709551615;
-    while turns > 0 {
-        let part = input::read_part(reader, chunk);
-        match part {
-            Part::Bytes(count) => {
-                size = listing::keep(room, size, &chunk[..count]);
-            }
-            Part::End => {
-                return Input::Kept(size);
-            }
-            Part::Failed => {
-                return Input::Failed;
-            }
+    for _ in 0..u64::MAX {
+        match input::read_part(reader, &mut space)? {
+            Some(part) => size = listing::keep(room, size, part),
+            None => return Ok(size),
         }
-        turns -= 1;
     }
-    Input::Failed
+    Err(Error::from(ErrorKind::TimedOut))
 }

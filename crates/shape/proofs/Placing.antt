@@ -1,20 +1,21 @@
 -- The pass over the rules: what holds in front of rule p, which stands at the place `at`.
 --     begun, more, over    where the pass begins, at a rule that is right, and behind the last rule
 --     refused              a rule that is not right
-use Prim.Native.Nat.{ℕ, ◌+◌, ◌*◌, ◌≤◌, ◌<◌}
+use Prim.Native.Nat.{ℕ, ◌+◌, ◌-◌, ◌*◌, ◌≤◌, ◌<◌}
 use mathlib.Core.Bool.{Bool, false, false≢true}
 use mathlib.Core.Path.{◌≡◌, sym, ap, ◌∙◌, subst}
 use mathlib.Core.List.{List}
 use native.Mathlib.Omega.{arith}
 use native.Mathlib.Numerals.{add-one}
 use borrow.Author.Count.{below_more}
+use Rattle.std.proofs.Common.{length-take, length-drop, get_or-take, get_or-drop}
 use borrow.Author.Tests.{eqb-true, eqb-false}
 use lib.Dec.{eqb}
-use lib.ListN.{length, get_or, set, length-set}
+use lib.ListN.{length, get_or, set, take, drop, length-set}
 use lib.Seq.{get_or-set_same, get_or-set_other}
-use Rattle.grammar.specs.Words.{word, header_size, terminal_count, rule_count, right_size, rule_place, Shaped}
-use Rattle.base.specs.Telling.{Tells}
-use Rattle.shape.specs.Parts.{Decides, HeaderRight, RuleRight, RuleThere, RulesRight, SymbolsRight, rule_of_lem}
+use Rattle.grammar.specs.Words.{word, header_size, terminal_count, rule_count, right_size, rule_place, RuleSymbol, Shaped}
+use Rattle.base.specs.Telling.{Tells, tells_as}
+use Rattle.shape.specs.Parts.{AllSymbols, Decides, HeaderRight, RuleRight, RuleThere, RulesRight, SymbolsRight, rule_of_lem}
 use Rattle.shape.specs.Inside.{place_first, place_next, places_small}
 
 -- A rule, by its symbols: the last test of `rule_right`.
@@ -31,6 +32,17 @@ rule_tells ws at T N size e left small inside t =
           };
       no = λ n r. t.no n (subst (λ k. SymbolsRight ws (at + 2) k T N) (sym e) r.symbols);
     }
+
+-- The symbols of a part of the words are those that stand there.
+pub symbols_there : (ws : List ℕ) (a n : ℕ) {T N : ℕ} {r : Bool} → a + n ≤ length ws
+    → Tells (AllSymbols (take (a + n - a) (drop a ws)) T N) r
+    → Tells (SymbolsRight ws a n T N) r
+symbols_there ws a n {T} {N} inside =
+    let size : length (take (a + n - a) (drop a ws)) ≡ n = omega (arith, length-take (a + n - a) (drop a ws), length-drop a ws) in
+    let here = λ (i : ℕ) (l : i < n). get_or-take (a + n - a) (drop a ws) i 0 (omega arith) ∙ get_or-drop a ws i 0 in
+    tells_as
+    (λ all i l. subst (RuleSymbol T N) (here i l) (all i (omega (arith, size))))
+    (λ all i l. subst (RuleSymbol T N) (sym (here i (omega (arith, size)))) (all i (omega (arith, size))))
 
 -- An answer of no.
 pub shut_out : {P Q : Type 0} → (Q → ⊥) → Decides P Q false

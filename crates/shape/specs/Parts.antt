@@ -76,6 +76,10 @@ TerminalsRight ws = (t : ℕ) → 1 ≤ t → t < terminal_count ws → Terminal
 abbrev pub SymbolsRight : List ℕ → ℕ → ℕ → ℕ → ℕ → Type 0
 SymbolsRight ws from size T N = (i : ℕ) → i < size → RuleSymbol T N (word ws (from + i))
 
+-- All symbols of a right side.
+abbrev pub AllSymbols : List ℕ → ℕ → ℕ → Type 0
+AllSymbols xs T N = (i : ℕ) → i < length xs → RuleSymbol T N (get_or xs i 0)
+
 -- The words of a rule at a place, all inside the list.
 pub record RuleRight (ws : List ℕ) (at T N : ℕ) : Type 0 where
   pub left : word ws at < N

@@ -1,11 +1,10 @@
 -- What the states and the answers of the spelling mean, and what the word buffer holds.
-use Rattle.std.specs.Prelude.{ℕ, ◌+◌, ◌-◌, ◌*◌, ◌≤◌, ◌<◌, min, ◌≡◌, List, [], ◌++◌, length, take, drop}
+use Rattle.std.specs.Prelude.{ℕ, ◌+◌, ◌-◌, ◌*◌, ◌≤◌, ◌<◌, min, ◌≡◌, List, [], ◌++◌, length, take, drop, Result, Ok, Err}
 use Rattle.grammar.specs.Buffers.{filled, cleared}
 use Rattle.spelling.specs.Text.{Digit, Number, Numbers, Spells, Stops}
 use Rattle.spelling.specs.declared.Spelled.{Spelled}
 use Rattle.spelling.specs.declared.Spelled.TheVariants.{Between, Within, Stopped}
-use Rattle.spelling.specs.declared.Spelling.{Spelling}
-use Rattle.spelling.specs.declared.Spelling.TheVariants.{Words, NoNumber}
+use Rattle.spelling.specs.declared.NoNumber.{NoNumber}
 
 -- How many there are, as far as a number of the code goes: nothing bounds a text.
 abbrev pub counted : ℕ → ℕ
@@ -45,10 +44,10 @@ pub record Told (old text : List ℕ) (state : Spelled) (buffer : List ℕ) : Ty
   pub says : Says text numbers state
 
 -- What a text comes to in a buffer of `room` words: its numbers and how many they are; or the place of the first word that is none.
-pub data Answered (text : List ℕ) (room : ℕ) (answer : Spelling) (buffer : List ℕ) : Type 0 where
-  words : (ns : List ℕ) → Spells text ns → answer ≡ Words (counted (length ns)) → buffer ≡ filled room (take room ns)
+pub data Answered (text : List ℕ) (room : ℕ) (answer : Result ℕ NoNumber) (buffer : List ℕ) : Type 0 where
+  words : (ns : List ℕ) → Spells text ns → answer ≡ Ok (counted (length ns)) → buffer ≡ filled room (take room ns)
       → Answered text room answer buffer
-  no_number : (ns : List ℕ) → Stops text ns → answer ≡ NoNumber (counted (length ns + 1)) → buffer ≡ cleared room
+  no_number : (ns : List ℕ) → Stops text ns → answer ≡ Err (record { place = counted (length ns + 1) }) → buffer ≡ cleared room
       → Answered text room answer buffer
 
 -- No byte of a text was taken yet.
@@ -60,7 +59,7 @@ abbrev pub Took : Spelled → List ℕ → List ℕ → Spelled → List ℕ →
 Took state part buffer next left = (old text : List ℕ) → Told old text state buffer → Told old (text ++ part) next left
 
 -- The text has ended: the answer is of all of it.
-abbrev pub Finished : Spelled → List ℕ → Spelling → List ℕ → Type 0
+abbrev pub Finished : Spelled → List ℕ → Result ℕ NoNumber → List ℕ → Type 0
 Finished state buffer answer left = (old text : List ℕ) → Told old text state buffer → Answered text (length buffer) answer left
 
 -- A word of value v goes on with a byte that is not blank, behind n numbers: with a digit, as long as it fits; else it is no number.

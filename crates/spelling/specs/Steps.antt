@@ -4,7 +4,7 @@
 --     blank_between, blank_within, between_went_on, within_went_on,
 --     stays                                                            a byte, by the state that meets it
 --     ends_between, ends_within, ends_stopped                          the end
-use Rattle.std.specs.Prelude.{ℕ, ◌+◌, ◌-◌, ◌≤◌, ◌<◌, ◌≡◌, take, get_or, replicate}
+use Rattle.std.specs.Prelude.{ℕ, ◌+◌, ◌-◌, ◌≤◌, ◌<◌, ◌≡◌, take, get_or, replicate, Result, Ok, Err}
 use Rattle.std.proofs.Common.{add-one, sym, subst, ◌∙◌, take-suc, take_all}
 use native.Mathlib.Omega.{arith}
 use Rattle.std.proofs.Math.Path.{refl, ap}
@@ -31,8 +31,7 @@ use Rattle.spelling.specs.Texts.{
 use Rattle.spelling.specs.Storing.{stored_none, stored_length, stored_more, stored_filled}
 use Rattle.spelling.specs.declared.Spelled.{Spelled}
 use Rattle.spelling.specs.declared.Spelled.TheVariants.{Between, Within, Stopped}
-use Rattle.spelling.specs.declared.Spelling.{Spelling}
-use Rattle.spelling.specs.declared.Spelling.TheVariants.{Words, NoNumber}
+use Rattle.spelling.specs.declared.NoNumber.{NoNumber}
 
 pub told_nothing : Begun (Between 0)
 unfolding Says
@@ -125,26 +124,26 @@ within_went_on buffer next unblank went old text told =
 -- The words stand in the buffer, and behind them zeros.
 answered_words : (old ns buffer : List ℕ) {text left : List ℕ} {n room : ℕ} → Spells text ns → n ≡ counted (length ns)
     → buffer ≡ stored old ns → length buffer ≡ room → room ≤ 18446744073709551615
-    → left ≡ take n buffer ++ replicate (length buffer - n) 0 → Answered text room (Words n) left
+    → left ≡ take n buffer ++ replicate (length buffer - n) 0 → Answered text room (Ok n) left
 answered_words old ns buffer {left = left} {n = n} {room = room} spells count held size fits e =
     let same = stored_length old ns in
     let long = ap length held in
     let zeros = stored_filled old ns count (omega arith) (subst (λ (b : List ℕ). left ≡ take n b ++ replicate (length b - n) 0) held e) in
-    words ns spells (ap Words count) (zeros ∙ ap (λ (k : ℕ). filled k (take k ns)) (sym long ∙ size))
+    words ns spells (ap (λ (k : ℕ). Ok k) count) (zeros ∙ ap (λ (k : ℕ). filled k (take k ns)) (sym long ∙ size))
 
-pub finished_as : {state met : Spelled} {answer : Spelling} {buffer left : List ℕ} → state ≡ met → Finished met buffer answer left
+pub finished_as : {state met : Spelled} {answer : Result ℕ NoNumber} {buffer left : List ℕ} → state ≡ met → Finished met buffer answer left
     → Finished state buffer answer left
 finished_as {answer = answer} {buffer = buffer} {left = left} e finished =
     subst (λ (s : Spelled). Finished s buffer answer left) (sym e) finished
 
 module _ (buffer : List ℕ) {left : List ℕ} {n : ℕ} (room : length buffer ≤ 18446744073709551615) where
-  pub ends_between : left ≡ take n buffer ++ replicate (length buffer - n) 0 → Finished (Between n) buffer (Words n) left
+  pub ends_between : left ≡ take n buffer ++ replicate (length buffer - n) 0 → Finished (Between n) buffer (Ok n) left
   unfolding Says
   ends_between e old text told =
       answered_words old told.numbers buffer (passed_spells told.says.1) told.says.0 told.holds refl room e
 
   pub ends_within : {v m : ℕ} {filled : List ℕ} → filled ≡ set buffer n v → m ≡ counted (n + 1)
-      → left ≡ take m filled ++ replicate (length filled - m) 0 → Finished (Within n v) buffer (Words m) left
+      → left ≡ take m filled ++ replicate (length filled - m) 0 → Finished (Within n v) buffer (Ok m) left
   unfolding Says
   ends_within {v} {m} {filled} stores count e old text told =
       let ns = told.numbers in
@@ -160,9 +159,9 @@ module _ (buffer : List ℕ) {left : List ℕ} {n : ℕ} (room : length buffer �
       e
 
   pub ends_stopped : {m : ℕ} → m ≡ counted (n + 1) → left ≡ replicate (length buffer - 0) 0
-      → Finished (Stopped n) buffer (NoNumber m) left
+      → Finished (Stopped n) buffer (Err (record { place = m })) left
   unfolding Says cleared
   ends_stopped {m} count e old text told =
       let least : n ≡ counted (length told.numbers) = told.says.0 in
       let place : m ≡ counted (length told.numbers + 1) = omega arith in
-      no_number told.numbers (halted_stops told.says.1) (ap NoNumber place) (clear_whole 0 (length buffer) e)
+      no_number told.numbers (halted_stops told.says.1) (ap (λ (k : ℕ). Err (record { place = k })) place) (clear_whole 0 (length buffer) e)

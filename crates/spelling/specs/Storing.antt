@@ -1,7 +1,7 @@
 -- What the word buffer holds.
 --     stored_none, stored_more     no number is stored yet; one more is
 --     stored_filled                zeros behind the numbers that fit
-use Rattle.std.specs.Prelude.{ℕ, suc, ◌+◌, ◌-◌, ◌≤◌, ◌<◌, ◌≡◌, ◌⊎◌, drop, set, get_or}
+use Rattle.std.specs.Prelude.{ℕ, suc, ◌-◌, ◌≤◌, ◌<◌, ◌≡◌, ◌⊎◌, drop, set, get_or}
 use native.Mathlib.Omega.{arith}
 use Rattle.std.proofs.Math.Path.{sym, ap}
 use Rattle.std.proofs.Common.{◌∙◌, inl, inr, length-append, length-drop, drop_of_length-le, drop-cons}

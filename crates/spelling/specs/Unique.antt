@@ -1,6 +1,6 @@
 -- A text and a buffer allow one answer: `answered_unique`; and each beginning of a text one state: `told_unique`. A text spells one list
 -- of words (`spells_unique`), or has one first word that is no number (`stops_unique`), and never both (`not_both`).
-use Rattle.std.specs.Prelude.{ℕ, ◌+◌, ◌-◌, ◌*◌, ◌≤◌, ◌<◌, ◌≡◌, refl, List, [], ◌∷◌, ◌++◌, ◌⊎◌, length, take}
+use Rattle.std.specs.Prelude.{ℕ, ◌+◌, ◌-◌, ◌*◌, ◌≤◌, ◌<◌, ◌≡◌, refl, List, [], ◌∷◌, ◌++◌, ◌⊎◌, length, take, Result, Ok, Err}
 use Rattle.std.proofs.Common.{arith, sym, ap, ap₂, subst, ◌∙◌, inl, inr, length-append}
 use Rattle.base.specs.Choices.{below_or}
 use Rattle.grammar.specs.Derivation.{All, nothing, also}
@@ -23,8 +23,7 @@ use Rattle.spelling.specs.Texts.{
 }
 use Rattle.spelling.specs.declared.Spelled.{Spelled}
 use Rattle.spelling.specs.declared.Spelled.TheVariants.{Between, Within, Stopped}
-use Rattle.spelling.specs.declared.Spelling.{Spelling}
-use Rattle.spelling.specs.declared.Spelling.TheVariants.{Words, NoNumber}
+use Rattle.spelling.specs.declared.NoNumber.{NoNumber}
 
 -- ---- Lists
 
@@ -129,18 +128,18 @@ not_both p q =
     let some = q.stop.some in
     omega (arith, ap length (behind ∙ q.stop.whole), length-append q.stop.word q.stop.rest)
 
-pub answered_unique : {text : List ℕ} {room : ℕ} {r s : Spelling} {buffer buffer' : List ℕ} → Answered text room r buffer
+pub answered_unique : {text : List ℕ} {room : ℕ} {r s : Result ℕ NoNumber} {buffer buffer' : List ℕ} → Answered text room r buffer
     → Answered text room s buffer' → (r ≡ s) × (buffer ≡ buffer')
 answered_unique {room = room} (words ns p e b) (words ms q e' b') =
     let same = (one_reading p (ends refl) q (ends refl)).0 in (
-      e ∙ (ap (λ (l : List ℕ). Words (counted (length l))) same ∙ sym e'),
+      e ∙ (ap (λ (l : List ℕ). Ok (counted (length l))) same ∙ sym e'),
       b ∙ (ap (λ (l : List ℕ). filled room (take room l)) same ∙ sym b'),
     )
 answered_unique (words ns p e b) (no_number ms q e' b') = absurd (not_both p q)
 answered_unique (no_number ns p e b) (words ms q e' b') = absurd (not_both q p)
 answered_unique (no_number ns p e b) (no_number ms q e' b') =
     let same = stops_unique p q in
-    (e ∙ (ap (λ (l : List ℕ). NoNumber (counted (length l + 1))) same ∙ sym e'), b ∙ sym b')
+    (e ∙ (ap (λ (l : List ℕ). Err (record { place = counted (length l + 1) })) same ∙ sym e'), b ∙ sym b')
 
 -- ---- One state
 

@@ -2,13 +2,13 @@
 // length, and a part may end within a number. specs/Text.antt says what a text spells.
 #![tactic(auto)]
 
-ghost use Rattle.std.specs.Prelude.{◌≡◌, ◌∷◌, [], ◌+◌, set};
+ghost use Rattle.std.specs.Prelude.{◌≡◌, ◌∷◌, [], set};
 ghost use Rattle.base.specs.Telling.{Tells};
-ghost use Rattle.spelling.specs.Text.{Blank, Digit};
-ghost use Rattle.spelling.specs.Answer.{Begun, Finished, Took, WentOn, counted};
+ghost use Rattle.spelling.specs.Text.{Blank};
+ghost use Rattle.spelling.specs.Answer.{Begun, Finished, Took, WentOn};
 
 // How far a text is spelled, after so many numbers that have ended. `Says` of specs/Answer.antt says what each stands for.
-#[derive(Clone, Copy)]
+#[derive(Clone, Copy, Debug, PartialEq, Eq)]
 pub enum Spelled {
     // No word is begun.
     Between(usize),
@@ -18,17 +18,11 @@ pub enum Spelled {
     Stopped(usize),
 }
 
-// The answer: how many words the text has, all of them numbers; or the place, from 1 on, of the first word that is none.
-#[derive(Clone, Copy)]
-pub enum Spelling {
-    Words(usize),
-    NoNumber(usize),
+// The first word of a text that is no number: its place, from 1 on.
+#[derive(Clone, Copy, Debug, PartialEq, Eq)]
+pub struct NoNumber {
+    pub place: usize,
 }
-
-// The largest word, and the largest number that counts words.
-const LARGEST_WORD: u32 = 65535;
-
-const LARGEST_COUNT: usize = 18446744073709551615;
 
 // Before the first byte of a text.
 pub fn begin() -> Spelled
@@ -42,32 +36,34 @@ pub fn take(state: Spelled, part: &[u8], words: &mut [u16]) -> Spelled
     ensures { Took state part.now words.old result words.new }
 {
     let mut reached = state;
-    let mut i = 0;
-    while i < part.len() {
-        reached = step(reached, part[i], words);
-        i += 1;
+    for &byte in part {
+        reached = step(reached, byte, words);
     }
     reached
 }
 
-// Ends the text. Where all words are numbers, the buffer holds them, as far as they fit, and zeros behind; else it is zero.
-pub fn finish(state: Spelled, words: &mut [u16]) -> Spelling
+// Ends the text: how many words it has, all of them numbers, or the first that is none; nothing bounds a text, so the largest number stands
+// for all above it. Where all words are numbers, the buffer holds
+// them, as far as they fit, and zeros behind; else it is zero.
+pub fn finish(state: Spelled, words: &mut [u16]) -> Result<usize, NoNumber>
     ensures { Finished state words.old result words.new }
 {
     match state {
         Spelled::Between(count) => {
-            base::clear_words(words, count);
-            Spelling::Words(count)
+            base::fill_from(words, count, 0);
+            Ok(count)
         }
         Spelled::Within(count, value) => {
             store(words, count, value);
-            let all = one_more(count);
-            base::clear_words(words, all);
-            Spelling::Words(all)
+            let all = count.saturating_add(1);
+            base::fill_from(words, all, 0);
+            Ok(all)
         }
         Spelled::Stopped(count) => {
-            base::clear_words(words, 0);
-            Spelling::NoNumber(one_more(count))
+            base::fill_from(words, 0, 0);
+            Err(NoNumber {
+                place: count.saturating_add(1),
+            })
         }
     }
 }
@@ -86,7 +82,7 @@ fn step(state: Spelled, byte: u8, words: &mut [u16]) -> Spelled
         Spelled::Within(count, value) => {
             if blank(byte) {
                 store(words, count, value);
-                return Spelled::Between(one_more(count));
+                return Spelled::Between(count.saturating_add(1));
             }
             go_on(count, value, byte)
         }
@@ -98,16 +94,16 @@ fn step(state: Spelled, byte: u8, words: &mut [u16]) -> Spelled
 fn go_on(count: usize, value: u16, byte: u8) -> Spelled
     ensures { WentOn count value byte result }
 {
-    if digit(byte) {
-        let longer = 10 * base::long(value) + (byte as u32 - b'0' as u32);
-        if longer <= LARGEST_WORD {
-            return Spelled::Within(count, longer as u16);
-        }
+    if !byte.is_ascii_digit() {
+        return Spelled::Stopped(count);
     }
-    Spelled::Stopped(count)
+    match u16::try_from(10 * u32::from(value) + u32::from(byte - b'0')) {
+        Ok(longer) => Spelled::Within(count, longer),
+        Err(_) => Spelled::Stopped(count),
+    }
 }
 
-// Stores a word, if the buffer has the place.
+// Stores a word, if the buffer has the place. Kept: the contract of `get_mut` does not say what the slice ends as.
 fn store(words: &mut [u16], place: usize, value: u16)
     ensures { words.new ≡ set words.old place value }
 {
@@ -116,39 +112,9 @@ fn store(words: &mut [u16], place: usize, value: u16)
     }
 }
 
-// Counts one word more, as far as the numbers go: nothing bounds a text.
-fn one_more(count: usize) -> usize
-    ensures { result ≡ counted (count + 1) }
-{
-    if count < LARGEST_COUNT {
-        count + 1
-    } else {
-        count
-    }
-}
-
 // Space, tab, newline or carriage return.
 fn blank(byte: u8) -> bool
     ensures { Tells (Blank byte) result }
 {
-    if byte == b' ' {
-        return true;
-    }
-    if byte == b'\t' {
-        return true;
-    }
-    if byte == b'\n' {
-        return true;
-    }
-    byte == b'\r'
-}
-
-// One of the digits 0 to 9.
-fn digit(byte: u8) -> bool
-    ensures { Tells (Digit byte) result }
-{
-    if byte < b'0' {
-        return false;
-    }
-    byte <= b'9'
+    matches!(byte, b' ' | b'\t' | b'\n' | b'\r')
 }

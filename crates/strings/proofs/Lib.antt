@@ -1,2 +1,3 @@
 -- Laws of loops that several proofs cite.
 pub mod Filling
+pub mod Tables

@@ -6,6 +6,7 @@
 --     Lengths     what the table of lengths holds, round by round
 --     Work        what is left to be spelled, with the steps that it takes
 --     Turns       the turns of spelling
+--     Ready       what the methods of `Strings` rest on
 pub mod Spelling
 pub mod Laws
 pub mod Spelled
@@ -13,3 +14,4 @@ pub mod Gathering
 pub mod Lengths
 pub mod Work
 pub mod Turns
+pub mod Ready

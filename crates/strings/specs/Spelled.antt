@@ -9,7 +9,6 @@ use Rattle.grammar.specs.Words.{RuleSymbol, nonterminal_count, terminal_count, i
 use Rattle.grammar.specs.Derivation.{All}
 use Rattle.grammar.specs.Cost.{SymbolCost, ListCost, CheapestRule, Ends}
 use Rattle.grammar.specs.Grammar.{RuleOf, grammar_of}
-use Rattle.grammar.proofs.Theory.CheapestRules as CheapestRules
 use Rattle.grammar.specs.Theory.Closed.{closed_down}
 use Rattle.grammar.specs.Theory.Costing.{list_cost_unique}
 use Rattle.grammar.specs.Theory.Good.{Accepted, Good, good_words, good_below}

@@ -22,7 +22,7 @@ use Rattle.strings.specs.Laws.{
   raised_append,
 }
 use Rattle.strings.specs.Lengths.{Measured}
-use Rattle.strings.specs.Spelling.{members, right_of, joined, spelt, Deep, steps, raised}
+use Rattle.strings.specs.Spelling.{members, right_of, joined, spelt, Deep, raised}
 use Rattle.strings.specs.Work.{
   below,
   to_spell,

@@ -16,12 +16,74 @@ ghost use Rattle.strings.specs.Lengths.{
   Rounded,
 };
 ghost use Rattle.strings.specs.Spelling.{length_in, members};
+ghost use Rattle.strings.specs.Ready.{CanWrite, Ready};
 ghost use Rattle.strings.specs.Work.{CanSpell, Spelt};
+
+use std::marker::Model;
 
 // Where the parser's tables have the cheapest rules, and where the right sides.
 const RULES: usize = 128;
 
 const RIGHTS: usize = 256;
+
+// What measures and spells strings: a table of right sides, for how many nonterminals, and the lengths.
+#[derive(Drop)]
+pub struct Strings<'a> {
+    table: &'a [u64],
+    depth: usize,
+    lengths: &'a [usize],
+}
+
+impl<'a> Model for Strings<'a> {
+    ghost use Rattle.strings.specs.Ready.{Ready, Tables};
+
+    ghost Value = { Tables };
+
+    ghost view = { λ s. record { rights = s.table.now; depth = s.depth; lengths = s.lengths.now } };
+
+    ghost invariant = { λ s. Ready (record { rights = s.table.now; depth = s.depth; lengths = s.lengths.now }) };
+}
+
+impl<'a> Strings<'a> {
+    // The lengths are lent, all zero, and filled.
+    pub fn new(table: &'a [u64], depth: usize, lengths: &'a mut [usize]) -> Self
+        requires { CanMeasure table.now depth lengths.old }
+        ensures rights { result.rights ≡ table.now }
+        ensures depth { result.depth ≡ depth }
+        ensures ready { Ready result }
+    {
+        crate::lengths(table, depth, lengths);
+        Strings {
+            table,
+            depth,
+            lengths,
+        }
+    }
+
+    // The length of a symbol's string.
+    pub fn length_of(&self, symbol: usize) -> usize
+        requires { symbol < 128 }
+        ensures { result ≡ length_in self.now.lengths symbol }
+    {
+        crate::length_of(self.lengths, symbol)
+    }
+
+    // Writes the string of a symbol into the buffer from a place on, each token raised, and gives where it ends.
+    pub fn spell(&self, symbol: u16, raise: u16, tokens: &mut [u16], at: usize) -> usize
+        requires { CanWrite self.now symbol raise tokens.old at }
+        ensures { Spelt self.now.rights self.now.depth symbol raise tokens.old at tokens.new result }
+    {
+        crate::spell(
+            self.table,
+            self.depth,
+            self.lengths,
+            symbol,
+            raise,
+            tokens,
+            at,
+        )
+    }
+}
 
 // ---- The table
 
@@ -32,10 +94,8 @@ pub fn gather(words: &[u16], prices: &[u32], sides: &[u64], table: &mut [u64])
         table.old table.new }
 {
     let count = shape::nonterminal_count(words);
-    let mut k = 0;
-    while k < count {
+    for k in 0..count {
         table[k] = sides[RIGHTS + prices[RULES + k] as usize];
-        k += 1;
     }
 }
 
@@ -48,13 +108,11 @@ pub fn lengths(table: &[u64], depth: usize, lengths: &mut [usize])
     ensures { Measured table.now depth lengths.new }
 {
     let mut next = [0usize; 64];
-    let mut d = 0;
-    while d < depth {
+    for _d in 0..depth {
         round(table, depth, lengths, &mut next);
-        if renew(depth, &next, lengths) {} else {
+        if !renew(depth, &next, lengths) {
             return;
         }
-        d += 1;
     }
 }
 
@@ -63,10 +121,8 @@ fn round(table: &[u64], count: usize, lengths: &[usize], next: &mut [usize])
     requires { CanRound table.now count lengths.now next.old }
     ensures { Rounded table.now count lengths.now next.old next.new }
 {
-    let mut k = 0;
-    while k < count {
-        next[k] = sum_of(lengths, table[k]);
-        k += 1;
+    for (k, &right) in table[..count].iter().enumerate() {
+        next[k] = sum_of(lengths, right);
     }
 }
 
@@ -76,17 +132,11 @@ fn renew(count: usize, next: &[usize], lengths: &mut [usize]) -> bool
     requires count_in_bounds_2 { count ≤ length lengths.old }
     ensures { Renewed count next.now lengths.old lengths.new result }
 {
-    let mut changed = false;
-    let mut k = 0;
-    while k < count {
-        let new = next[k];
-        if lengths[k] != new {
-            changed = true;
-        }
-        lengths[k] = new;
-        k += 1;
+    if lengths[..count] == next[..count] {
+        return false;
     }
-    changed
+    lengths[..count].copy_from_slice(&next[..count]);
+    true
 }
 
 // The sum over a right side.
@@ -131,9 +181,10 @@ pub fn spell(
     requires { CanSpell table.now depth lengths.now symbol raise tokens.old at }
     ensures { Spelt table.now depth symbol raise tokens.old at tokens.new result }
 {
+    // Kept: an array with its height, as memory is fixed (no heap).
     let mut stack = [0u64; 64];
     let mut h = 0;
-    let mut left = symbol as u64;
+    let mut left = u64::from(symbol);
     let mut end = at;
     loop {
         if left == 0 {

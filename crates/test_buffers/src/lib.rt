@@ -1,55 +1,183 @@
-// What the test programs do with lent buffers: old content before a call, and one number for the content after it.
+// What the test programs share: the steps and texts that their input holds, old content of the buffers that they lend, and one number for
+// what a call leaves in a buffer.
 #![tactic(auto)]
 
-ghost use Rattle.std.specs.Prelude.{◌≡◌, ◌≤◌, length, replicate};
+ghost use Rattle.std.specs.Prelude.{◌≡◌, ℕ, ◌<◌, ◌≤◌, length, map, replicate, IfOk, IfSome, None};
+ghost use Rattle.std.specs.Iterator.{at_most};
 ghost use Rattle.test_buffers.specs.Digest.{digest_of};
 
-// Old content: no word of it is zero.
-pub fn put_old(words: &mut [u16])
-    ensures { words.new ≡ replicate (length words.old) 43690 }
-{
-    let mut i = 0;
-    while i < words.len() {
-        words[i] = 43690;
-        i += 1;
+use std::io;
+use std::io::{ErrorKind, Read};
+
+// ---- Buffers
+
+// What a lent buffer is made of: words or bytes.
+pub trait Cell: Copy {
+    // The number that a cell holds.
+    ghost value: { Self → ℕ };
+
+    // Old content, which is not zero.
+    ghost OLD: { Self };
+
+    const OLD: Self;
+
+    fn number(self) -> usize
+        ensures value { result ≡ value self }
+        ensures upper_bound { result < 65536 };
+}
+
+impl Cell for u16 {
+    ghost value = { λ x. x };
+
+    ghost OLD = { 43690 };
+
+    const OLD: u16 = 43690;
+
+    fn number(self) -> usize {
+        usize::from(self)
     }
 }
 
-// A number that tells the first `room` words: 0 where all are zero, and any left word shows in it.
-pub fn digest(words: &[u16], room: usize) -> u64
-    requires { room ≤ length words.now }
-    ensures { result ≡ digest_of words.now room }
+impl Cell for u8 {
+    ghost value = { λ x. x };
+
+    ghost OLD = { 170 };
+
+    const OLD: u8 = 170;
+
+    fn number(self) -> usize {
+        usize::from(self)
+    }
+}
+
+// Old content: no cell of it is zero.
+pub fn put_old<T: Cell>(buffer: &mut [T])
+    ensures { buffer.new ≡ replicate (length buffer.old) T.OLD }
 {
-    let mut sum: usize = 0;
-    let mut i = 0;
-    while i < room {
-        sum = (sum * 65599 + base::wide(words[i])) % 4294967291;
-        i += 1;
+    base::fill_from(buffer, 0, T::OLD);
+}
+
+// A number that tells what the buffer holds: 0 where all of it is zero, and any left cell shows in it.
+pub fn digest<T: Cell>(buffer: &[T]) -> u64
+    ensures { result ≡ digest_of (map T.value buffer.now) (length buffer.now) }
+{
+    let mut sum = 0usize;
+    for &cell in buffer {
+        sum = (sum * 65599 + cell.number()) % 4294967291;
     }
     sum as u64
 }
 
-// Old content of bytes: none of them is zero.
-pub fn put_old_bytes(bytes: &mut [u8])
-    ensures { bytes.new ≡ replicate (length bytes.old) 170 }
-{
-    let mut i = 0;
-    while i < bytes.len() {
-        bytes[i] = 170;
-        i += 1;
+// Sets a cell, where the buffer has the place.
+pub fn change<T: Copy>(buffer: &mut [T], place: u16, cell: T) {
+    if let Some(there) = buffer.get_mut(usize::from(place)) {
+        *there = cell;
     }
 }
 
-// A number that tells the first `room` bytes, as `digest` does of words.
-pub fn digest_bytes(bytes: &[u8], room: usize) -> u64
-    requires { room ≤ length bytes.now }
-    ensures { result ≡ digest_of bytes.now room }
-{
-    let mut sum: usize = 0;
-    let mut i = 0;
-    while i < room {
-        sum = (sum * 65599 + base::wide_byte(bytes[i])) % 4294967291;
-        i += 1;
+// ---- Input
+
+// The steps of an input, each so many little endian numbers of two bytes. Nothing says that an input ends, and a loop has to: the turns are
+// more than any input has steps.
+#[derive(Drop)]
+pub struct Steps<R, const N: usize> {
+    reader: R,
+    turns: u64,
+}
+
+impl<R: Read, const N: usize> Steps<R, N> {
+    pub fn new(reader: R) -> Steps<R, N>
+        ensures { result.reader ≡ reader }
+    {
+        Steps {
+            reader,
+            turns: u64::MAX,
+        }
     }
-    sum as u64
+}
+
+impl<R: Read + Drop, const N: usize> Iterator for Steps<R, N> {
+    type Item = io::Result<[u16; N]>;
+
+    ghost remaining = { λ s. at_most s.turns };
+
+    fn next(&mut self) -> Option<io::Result<[u16; N]>> {
+        if self.turns == 0 {
+            return None;
+        }
+        self.turns -= 1;
+        read_step(&mut self.reader).transpose()
+    }
+
+    // How many steps are left is not known before they are read.
+    fn size_hint(&self) -> (usize, Option<usize>) {
+        (0, None)
+    }
+}
+
+// The next step of an input; none where it ends before.
+fn read_step<R: Read, const N: usize>(reader: &mut R) -> io::Result<Option<[u16; N]>> {
+    let mut numbers = [0u16; N];
+    for number in numbers.iter_mut() {
+        let Some(bytes) = read_bytes(reader)? else {
+            return Ok(None);
+        };
+        *number = u16::from_le_bytes(bytes);
+    }
+    Ok(Some(numbers))
+}
+
+// The next text of an input, behind its length, which is a little endian number of four bytes: as much of it as the room holds stands in
+// front of the room, and so long it is there. None where the input ends before.
+pub fn read_text<R: Read>(reader: &mut R, room: &mut [u8]) -> io::Result<Option<usize>>
+    ensures { IfOk result (λ text. IfSome text (λ n. n ≤ length room.old)) }
+{
+    let Some(size) = read_size(reader)? else {
+        return Ok(None);
+    };
+    let kept = size.min(room.len());
+    let read = read_full(reader, &mut room[..kept])?;
+    skip(reader, size - kept)?;
+    Ok(Some(read))
+}
+
+// Reads until the buffer is full or the input ends, and gives how many bytes that are.
+pub fn read_full<R: Read>(reader: &mut R, buffer: &mut [u8]) -> io::Result<usize>
+    ensures { IfOk result (λ n. n ≤ length buffer.old) }
+{
+    let mut read = 0;
+    while read < buffer.len() {
+        let more = reader.read(&mut buffer[read..])?;
+        if more == 0 {
+            break;
+        }
+        read += more;
+    }
+    Ok(read)
+}
+
+// The length that stands in front of a text; none where the input ends before.
+pub fn read_size<R: Read>(reader: &mut R) -> io::Result<Option<usize>>
+    ensures { IfOk result (λ size. IfSome size (λ n. n < 4294967296)) }
+{
+    match read_bytes(reader)? {
+        Some(bytes) => Ok(Some(u32::from_le_bytes(bytes) as usize)),
+        None => Ok(None),
+    }
+}
+
+// Reads so many bytes and forgets them.
+fn skip<R: Read>(reader: &mut R, count: usize) -> io::Result<()> {
+    io::copy(&mut reader.take(count as u64), &mut io::sink())?;
+    Ok(())
+}
+
+// The next so many bytes of an input; none where it ends before.
+fn read_bytes<R: Read, const N: usize>(reader: &mut R) -> io::Result<Option<[u8; N]>> {
+    let mut bytes = [0u8; N];
+    match reader.read_exact(&mut bytes) {
+        Ok(()) => Ok(Some(bytes)),
+        Err(error) if error.kind() == ErrorKind::UnexpectedEof => Ok(None),
+        Err(error) => Err(error),
+    }
 }

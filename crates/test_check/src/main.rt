@@ -6,64 +6,33 @@
 // expected.py makes the input, and what must be printed, from document 01 alone.
 #![tactic(auto)]
 
-use verdict::Checked;
+use std::io;
+use test_buffers::Steps;
 
-fn main() {
+fn main(rt: HostRuntime) {
+    // A read or a write that fails ends it, and nothing is left to be done then.
+    let _ = steps(&rt);
+}
+
+fn steps(rt: &HostRuntime) -> io::Result<()> {
     let mut words = [0u16; 4096];
-    run_all(&mut words);
-}
-
-// A proved loop has to end, and nothing says that the input does: the turns are more than any input here has steps.
-fn run_all(words: &mut [u16]) {
-    let mut turns: u32 = 1000000;
-    while turns > 0 && step(words) {
-        turns -= 1;
-    }
-}
-
-// Takes one step, and answers whether there was one.
-fn step(words: &mut [u16]) -> bool {
-    let mut given = [0u8; 6];
-    let got = io::read_full(0, &mut given);
-    if got < 6 {
-        return false;
-    }
-    let kind = base::pair(given[0], given[1]);
-    let first = base::pair(given[2], given[3]);
-    let second = base::pair(given[4], given[5]);
-    if kind == 0 {
-        change(words, base::wide(first), second);
-    } else {
-        run(words, base::wide(first), second);
-    }
-    true
-}
-
-fn change(words: &mut [u16], place: usize, word: u16) {
-    if place < words.len() {
-        words[place] = word;
-    }
-}
-
-fn run(words: &[u16], size: usize, number: u16) {
-    if words.len() < size {
-        return;
-    }
-    let answer = verdict::check(&words[..size]);
-    io::write_all(1, b"case ");
-    io::print_decimal(1, number as u64);
-    print_answer(answer);
-    io::write_all(1, b"\n");
-}
-
-fn print_answer(answer: Checked) {
-    match answer {
-        Checked::Accepted => {
-            io::write_all(1, b" accepted");
+    for step in Steps::<_, 3>::new(rt.stdin()) {
+        let [kind, first, second] = step?;
+        match kind {
+            0 => test_buffers::change(&mut words, first, second),
+            _ => run(rt, &words, first, second)?,
         }
-        Checked::Refused(refusal) => {
-            io::write_all(1, b" refused ");
-            io::print_decimal(1, grammar::number_of(refusal) as u64);
-        }
+    }
+    Ok(())
+}
+
+// Checks the first so many words, and prints the answer as that of a case.
+fn run(rt: &impl Print, words: &[u16], size: u16, case: u16) -> io::Result<()> {
+    let Some(words) = words.get(..usize::from(size)) else {
+        return Ok(());
+    };
+    match verdict::check(words) {
+        Ok(()) => println!(rt; "case {case} accepted"),
+        Err(refusal) => println!(rt; "case {case} refused {}", u32::from(refusal)),
     }
 }

@@ -6,101 +6,55 @@
 // compare/store makes the input, and what must be printed, by the independent implementation.
 #![tactic(auto)]
 
-use desk::Desk;
+use std::io;
+use test_buffers::Steps;
 
-fn main() {
+fn main(rt: HostRuntime) {
+    // A read or a write that fails ends it, and nothing is left to be done then.
+    let _ = steps(&rt);
+}
+
+fn steps(rt: &HostRuntime) -> io::Result<()> {
     let mut words = [0u16; 4096];
     let mut costs = [0u16; 512];
     let mut rules = [0u16; 512];
-    run_all(&mut words, &mut costs, &mut rules);
+    for step in Steps::<_, 4>::new(rt.stdin()) {
+        let [kind, first, second, third] = step?;
+        match kind {
+            0 => test_buffers::change(&mut words, first, second),
+            _ => {
+                let Some(words) = words.get(..usize::from(first)) else {
+                    continue;
+                };
+                let Some(costs) = costs.get_mut(..usize::from(second)) else {
+                    continue;
+                };
+                let Some(rules) = rules.get_mut(..usize::from(third)) else {
+                    continue;
+                };
+                run(rt, words, costs, rules)?;
+            }
+        }
+    }
+    Ok(())
 }
 
-// A proved loop has to end, and nothing says that the input does: the turns are more than any input here has steps.
-fn run_all(words: &mut [u16], costs: &mut [u16], rules: &mut [u16]) {
-    let mut turns: u32 = 1000000;
-    while turns > 0 && step(words, costs, rules) {
-        turns -= 1;
-    }
-}
-
-// Takes one step, and answers whether there was one.
-fn step(words: &mut [u16], costs: &mut [u16], rules: &mut [u16]) -> bool {
-    let mut given = [0u8; 8];
-    let got = io::read_full(0, &mut given);
-    if got < 8 {
-        return false;
-    }
-    let first = base::wide(base::pair(given[2], given[3]));
-    let second = base::pair(given[4], given[5]);
-    let third = base::wide(base::pair(given[6], given[7]));
-    if given[0] == 0 {
-        change(words, first, second);
-    } else {
-        cut(words, first, costs, base::wide(second), rules, third);
-    }
-    true
-}
-
-fn change(words: &mut [u16], place: usize, word: u16) {
-    if place < words.len() {
-        words[place] = word;
-    }
-}
-
-// Hands the first so many words in, with buffers of so many words.
-fn cut(
-    words: &[u16],
-    size: usize,
-    costs: &mut [u16],
-    cost_room: usize,
-    rules: &mut [u16],
-    rule_room: usize,
-) {
-    if words.len() < size {
-        return;
-    }
-    if costs.len() < cost_room {
-        return;
-    }
-    if rules.len() < rule_room {
-        return;
-    }
-    run(
-        &words[..size],
-        &mut costs[..cost_room],
-        &mut rules[..rule_room],
-    );
-}
-
-fn run(words: &[u16], costs: &mut [u16], rules: &mut [u16]) {
+// Hands the words in with these buffers, and prints the answer.
+fn run(rt: &impl Print, words: &[u16], costs: &mut [u16], rules: &mut [u16]) -> io::Result<()> {
     test_buffers::put_old(costs);
     test_buffers::put_old(rules);
     let answer = desk::costs(words, costs, rules);
-    print_number(b"words ", words.len());
-    print_number(b" costs ", costs.len());
-    print_number(b" rules ", rules.len());
-    print_answer(answer);
-    print_digest(costs);
-    print_digest(rules);
-    io::write_all(1, b"\n");
-}
-
-fn print_number(name: &[u8], number: usize) {
-    io::write_all(1, name);
-    io::print_decimal(1, number as u64);
-}
-
-fn print_digest(buffer: &[u16]) {
-    io::write_all(1, b" digest ");
-    io::print_decimal(1, test_buffers::digest(buffer, buffer.len()));
-}
-
-fn print_answer(answer: Desk) {
+    print!(rt;
+        "words {} costs {} rules {}",
+        words.len(),
+        costs.len(),
+        rules.len()
+    )?;
     match answer {
-        Desk::Listed(count) => print_number(b" given ", count),
-        Desk::Refused(refusal) => {
-            io::write_all(1, b" refused ");
-            io::print_decimal(1, grammar::number_of(refusal) as u64);
-        }
+        Ok(count) => print!(rt; " given {count}")?,
+        Err(refusal) => print!(rt; " refused {}", u32::from(refusal))?,
     }
+    let left = test_buffers::digest(costs);
+    let listed = test_buffers::digest(rules);
+    println!(rt; " digest {left} digest {listed}")
 }

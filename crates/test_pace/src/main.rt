@@ -8,171 +8,82 @@
 // README.md says where the input and the expected answers come from.
 #![tactic(auto)]
 
-use grammar::{Pace, Report};
-use pace::Paced;
+use grammar::Pace;
+use std::io;
+use test_buffers::Steps;
 
-fn main() {
+fn main(rt: HostRuntime) {
+    // A read or a write that fails ends it, and nothing is left to be done then.
+    let _ = steps(&rt);
+}
+
+fn steps(rt: &HostRuntime) -> io::Result<()> {
     let mut words = [0u16; 2816];
     let mut log = [0u16; 4352];
     let mut ticks = [0u32; 4352];
     let mut edits = [0u16; 4096];
     let mut rules = [0u16; 4096];
-    run_all(&mut words, &mut log, &mut ticks, &mut edits, &mut rules);
-}
-
-// A proved loop has to end, and nothing says that the input does: the turns are more than any input here has steps.
-fn run_all(
-    words: &mut [u16],
-    log: &mut [u16],
-    ticks: &mut [u32],
-    edits: &mut [u16],
-    rules: &mut [u16],
-) {
-    let mut turns: u32 = 1000000;
-    while turns > 0 && step(words, log, ticks, edits, rules) {
-        turns -= 1;
-    }
-}
-
-// Takes one step, and answers whether there was one.
-fn step(
-    words: &mut [u16],
-    log: &mut [u16],
-    ticks: &mut [u32],
-    edits: &mut [u16],
-    rules: &mut [u16],
-) -> bool {
-    let mut given = [0u8; 12];
-    let got = io::read_full(0, &mut given);
-    if got < 12 {
-        return false;
-    }
-    let kind = base::wide(base::pair(given[0], given[1]));
-    let first = base::wide(base::pair(given[2], given[3]));
-    let second = base::pair(given[4], given[5]);
-    let third = base::pair(given[6], given[7]);
-    let fourth = base::pair(given[8], given[9]);
-    let fifth = base::wide(base::pair(given[10], given[11]));
-    match kind {
-        0 => change(words, first, second),
-        1 => {
-            change(log, first, second);
-            change_tick(ticks, first, base::quad(third, fourth));
+    for step in Steps::<_, 6>::new(rt.stdin()) {
+        let [kind, first, second, third, fourth, fifth] = step?;
+        match kind {
+            0 => test_buffers::change(&mut words, first, second),
+            1 => {
+                let tick = u32::from(third) + 65536 * u32::from(fourth);
+                test_buffers::change(&mut log, first, second);
+                test_buffers::change(&mut ticks, first, tick);
+            }
+            _ => {
+                let Some(words) = words.get(..usize::from(first)) else {
+                    continue;
+                };
+                let Some(log) = log.get(..usize::from(second)) else {
+                    continue;
+                };
+                let Some(ticks) = ticks.get(..usize::from(third)) else {
+                    continue;
+                };
+                let Some(edits) = edits.get_mut(..usize::from(fourth)) else {
+                    continue;
+                };
+                let Some(rules) = rules.get_mut(..usize::from(fifth)) else {
+                    continue;
+                };
+                run(rt, words, log, ticks, edits, rules)?;
+            }
         }
-        _ => cut(
-            words,
-            first,
-            log,
-            base::wide(second),
-            ticks,
-            base::wide(third),
-            edits,
-            base::wide(fourth),
-            rules,
-            fifth,
-        ),
     }
-    true
+    Ok(())
 }
 
-fn change(words: &mut [u16], place: usize, word: u16) {
-    if place < words.len() {
-        words[place] = word;
-    }
-}
-
-fn change_tick(ticks: &mut [u32], place: usize, tick: u32) {
-    if place < ticks.len() {
-        ticks[place] = tick;
-    }
-}
-
-// The report of the first so many words, tokens and ticks, in buffers of so many words.
-fn cut(
+// The report of these tokens and ticks in these buffers.
+fn run(
+    rt: &impl Print,
     words: &[u16],
-    count: usize,
     log: &[u16],
-    tokens: usize,
     ticks: &[u32],
-    timed: usize,
     edits: &mut [u16],
-    e: usize,
     rules: &mut [u16],
-    r: usize,
-) {
-    if words.len() < count {
-        return;
-    }
-    if log.len() < tokens {
-        return;
-    }
-    if ticks.len() < timed {
-        return;
-    }
-    if edits.len() < e {
-        return;
-    }
-    if rules.len() < r {
-        return;
-    }
-    run(
-        &words[..count],
-        &log[..tokens],
-        &ticks[..timed],
-        &mut edits[..e],
-        &mut rules[..r],
-    );
-}
-
-fn run(words: &[u16], log: &[u16], ticks: &[u32], edits: &mut [u16], rules: &mut [u16]) {
+) -> io::Result<()> {
     test_buffers::put_old(edits);
     test_buffers::put_old(rules);
-    let paced = pace::report(words, log, ticks, edits, rules);
-    print_paced(paced);
-    io::write_all(1, b" digests ");
-    io::print_decimal(1, test_buffers::digest(edits, edits.len()));
-    io::write_all(1, b" ");
-    io::print_decimal(1, test_buffers::digest(rules, rules.len()));
-    io::write_all(1, b"\n");
-}
-
-fn print_paced(paced: Paced) {
-    match paced {
-        Paced::Reported(report, _) => print_report(report),
-        Paced::Refused(refusal) => {
-            io::write_all(1, b"refused ");
-            io::print_decimal(1, grammar::number_of(refusal) as u64);
+    match pace::report(words, log, ticks, edits, rules) {
+        Ok((report, _)) => {
+            print!(rt; "cycles {} ms {}", report.count, report.sum)?;
+            print_pace(rt, report.pace)?;
         }
+        Err(refusal) => print!(rt; "refused {}", u32::from(refusal))?,
     }
+    let edited = test_buffers::digest(edits);
+    let listed = test_buffers::digest(rules);
+    println!(rt; " digests {edited} {listed}")
 }
 
-fn print_report(report: Report) {
-    io::write_all(1, b"cycles ");
-    io::print_decimal(1, report.count as u64);
-    io::write_all(1, b" ms ");
-    io::print_decimal(1, report.sum);
-    let pace = report.pace;
-    print_pace(pace);
-}
-
-// The mean by its 64 bits: a mean that was rounded twice, or in fewer bits, shows.
-fn print_pace(pace: Pace) {
+// The mean by its 64 bits: a mean that was rounded twice, or in fewer bits, shows. No mean is below 0 or no number, so that the last line is
+// never printed.
+fn print_pace(rt: &impl Print, pace: Pace) -> io::Result<()> {
     match pace {
-        Pace::Idle => {
-            io::write_all(1, b" idle");
-        }
-        Pace::Mean(mean) => {
-            io::write_all(1, b" mean ");
-            print_bits(mean);
-        }
-    }
-}
-
-// The bits of a mean. No mean is below 0 or no number, so that the other line is never printed.
-fn print_bits(mean: f64) {
-    if mean >= 0.0 {
-        io::print_decimal(1, f64::to_bits(mean));
-    } else {
-        io::write_all(1, b"of no number");
+        Pace::Idle => print!(rt; " idle"),
+        Pace::Mean(mean) if mean >= 0.0 => print!(rt; " mean {}", mean.to_bits()),
+        Pace::Mean(_) => print!(rt; " mean of no number"),
     }
 }

@@ -7,80 +7,42 @@
 // expected.py makes the input, and what must be printed, from document 01 alone.
 #![tactic(auto)]
 
-use file::Reading;
+use std::io;
+use test_buffers::Steps;
 
-fn main() {
+fn main(rt: HostRuntime) {
+    // A read or a write that fails ends it, and nothing is left to be done then.
+    let _ = steps(&rt);
+}
+
+fn steps(rt: &HostRuntime) -> io::Result<()> {
     let mut file = [0u8; 6656];
     let mut words = [0u16; 2816];
-    run_all(&mut file, &mut words);
+    for step in Steps::<_, 3>::new(rt.stdin()) {
+        let [kind, first, second] = step?;
+        match kind {
+            0 => test_buffers::change(&mut file, first, second.to_le_bytes()[0]),
+            1 => run(rt, &file, first, &mut words, second)?,
+            _ => println!(rt; "group {first}")?,
+        }
+    }
+    Ok(())
 }
 
-// A proved loop has to end, and nothing says that the input does: the turns are more than any input here has steps.
-fn run_all(file: &mut [u8], words: &mut [u16]) {
-    let mut turns: u32 = 1000000;
-    while turns > 0 && step(file, words) {
-        turns -= 1;
-    }
-}
-
-// Takes one step, and answers whether there was one.
-fn step(file: &mut [u8], words: &mut [u16]) -> bool {
-    let mut given = [0u8; 6];
-    let got = io::read_full(0, &mut given);
-    if got < 6 {
-        return false;
-    }
-    let kind = base::wide(base::pair(given[0], given[1]));
-    let first = base::wide(base::pair(given[2], given[3]));
-    let second = base::wide(base::pair(given[4], given[5]));
-    match kind {
-        0 => change(file, first, given[4]),
-        1 => run(file, first, words, second),
-        _ => print_group(first),
-    }
-    true
-}
-
-fn change(file: &mut [u8], place: usize, byte: u8) {
-    if place < file.len() {
-        file[place] = byte;
-    }
-}
-
-fn print_group(group: usize) {
-    io::write_all(1, b"group ");
-    io::print_decimal(1, group as u64);
-    io::write_all(1, b"\n");
-}
-
-fn run(file: &[u8], size: usize, words: &mut [u16], room: usize) {
-    if file.len() < size {
-        return;
-    }
-    if words.len() < room {
-        return;
-    }
-    test_buffers::put_old(words);
-    let reading = file::read(&file[..size], &mut words[..room]);
-    io::write_all(1, b"bytes ");
-    io::print_decimal(1, size as u64);
-    io::write_all(1, b" room ");
-    io::print_decimal(1, room as u64);
-    print_reading(reading);
-    io::write_all(1, b" digest ");
-    io::print_decimal(1, test_buffers::digest(words, room));
-    io::write_all(1, b"\n");
-}
-
-fn print_reading(reading: Reading) {
+// Reads the first so many bytes into so many words, and prints the answer.
+fn run(rt: &impl Print, file: &[u8], size: u16, words: &mut [u16], room: u16) -> io::Result<()> {
+    let Some(bytes) = file.get(..usize::from(size)) else {
+        return Ok(());
+    };
+    let Some(buffer) = words.get_mut(..usize::from(room)) else {
+        return Ok(());
+    };
+    test_buffers::put_old(buffer);
+    let reading = file::read(bytes, buffer);
+    print!(rt; "bytes {size} room {room}")?;
     match reading {
-        Reading::Words(count) => {
-            io::write_all(1, b" words ");
-            io::print_decimal(1, count as u64);
-        }
-        Reading::Refused(refusal) => {
-            io::write_all(1, b" refused ");
-            io::print_decimal(1, grammar::number_of(refusal) as u64);
-        }
+        Ok(count) => print!(rt; " words {count}")?,
+        Err(refusal) => print!(rt; " refused {}", u32::from(refusal))?,
     }
+    println!(rt; " digest {}", test_buffers::digest(buffer))
 }

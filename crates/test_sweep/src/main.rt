@@ -2,74 +2,24 @@
 // its length (four bytes, little endian) and its bytes; README.md says where inputs and expected listings come from.
 #![tactic(auto)]
 
-ghost use Rattle.std.specs.Prelude.{◌≤◌, ◌<◌, length};
+use std::io;
 
-// What stands behind so many bytes of an input decides nothing.
-const KEPT: usize = 30216;
-
-// More inputs than are stored.
-const MOST: u32 = 100000;
-
-fn main() {
-    let mut turns: u32 = MOST;
-    while turns > 0 && list_one() {
-        turns -= 1;
-    }
+fn main(rt: HostRuntime) {
+    // A read or a write that fails ends it, and nothing is left to be done then.
+    let _ = steps(&rt);
 }
 
-// Reads one input and prints its listing; answers whether there was one.
-fn list_one() -> bool {
-    let mut head = [0u8; 4];
-    if io::read_full(0, &mut head) < 4 {
-        return false;
-    }
-    let size = size_of(head);
-    let mut input = [0u8; 30216];
-    let got = fill(&mut input, size);
-    skip(behind(size));
+fn steps(rt: &HostRuntime) -> io::Result<()> {
+    let mut reader = rt.stdin();
+    let mut room = [0u8; 30216];
     let mut out = [0u8; 155817];
-    let count = listing::show(&input, got, &mut out);
-    io::write_all(1, &out[..count]);
-    true
-}
-
-// Reads so many bytes, or as many as the space has.
-fn fill(space: &mut [u8], count: usize) -> usize
-    ensures { result ≤ length space.old }
-{
-    if count < space.len() {
-        io::read_full(0, &mut space[..count])
-    } else {
-        io::read_full(0, space)
+    // More turns than any input has texts.
+    for _ in 0..u64::MAX {
+        let Some(size) = test_buffers::read_text(&mut reader, &mut room)? else {
+            break;
+        };
+        let count = listing::show(&room, size, &mut out);
+        rt.write_all(&out[..count])?;
     }
-}
-
-// How much of an input stands behind what is kept.
-fn behind(size: usize) -> usize {
-    if size < KEPT { 0 } else { size - KEPT }
-}
-
-// Reads so many bytes and forgets them.
-fn skip(count: usize) {
-    let mut left = count;
-    while left > 0 {
-        let mut space = [0u8; 512];
-        fill(&mut space, left);
-        left = fewer(left);
-    }
-}
-
-// What is left behind the next 512.
-fn fewer(left: usize) -> usize
-    requires { 0 < left }
-    ensures { result < left }
-{
-    if left < 512 { 0 } else { left - 512 }
-}
-
-// An input's length.
-fn size_of(head: [u8; 4]) -> usize {
-    let low = base::pair(head[0], head[1]);
-    let high = base::pair(head[2], head[3]);
-    base::quad(low, high) as usize
+    Ok(())
 }

@@ -2,6 +2,6 @@
 #![tactic(auto)]
 
 fn main(rt: HostRuntime) {
-    making::run(&mut rt.stdin());
-    io::write_all(1, b"nothing else was printed\n");
+    making::run(&rt, &mut rt.stdin());
+    let _ = println!(rt; "nothing else was printed");
 }

@@ -1,6 +1,7 @@
 // The printing program, where its input cannot be read: it must print nothing to standard output.
 #![tactic(auto)]
 
+use std::io;
 use std::io::{Error, ErrorKind, Read};
 
 // An input of which each read fails.
@@ -8,12 +9,12 @@ use std::io::{Error, ErrorKind, Read};
 struct Unreadable;
 
 impl Read for Unreadable {
-    fn read(&mut self, _buf: &mut [u8]) -> std::io::Result<usize> {
+    fn read(&mut self, _buf: &mut [u8]) -> io::Result<usize> {
         Err(Error::from(ErrorKind::Other))
     }
 }
 
-fn main() {
-    printing::run(&mut Unreadable);
-    io::write_all(1, b"nothing else was printed\n");
+fn main(rt: HostRuntime) {
+    printing::run(&rt, &mut Unreadable);
+    let _ = println!(rt; "nothing else was printed");
 }

@@ -1,31 +1,29 @@
 -- What the answers of the grammar check mean, and what stands in the tables behind them.
-use Rattle.std.specs.Prelude.{ℕ, ◌+◌, ◌≤◌, ◌<◌, ◌≡◌, refl, Bool, true, List, [], ◌∷◌, length, get_or}
-use Rattle.std.proofs.Common.{sym, ap, ◌∙◌, subst, arith}
-use Rattle.std.proofs.Math.Option.{Option, none, some}
+use Rattle.std.specs.Prelude.{ℕ, ◌+◌, ◌≤◌, ◌<◌, ◌≡◌, refl, Bool, true, List, [], ◌∷◌, length, get_or, Result, Ok, Err, ◌↔◌, IsSome, IfSome, Option, None, Some, ⊤, ok_or}
+use Rattle.std.proofs.Common.{sym, ap, ◌∙◌, subst, arith, true≢false}
+use Rattle.std.proofs.Math.Option.{none, some}
 use borrow.Rule.Slice.PartMut.{put_mid}
 use Rattle.grammar.specs.Words.{START, Shaped, terminal_count, nonterminal_count, rule_count, insert_cost}
 use Rattle.grammar.specs.Derivation.{NoneShared, Reachable}
 use Rattle.grammar.specs.Cost.{SymbolCost, CheapestRule}
 use Rattle.grammar.specs.Grammar.{RuleOf, EachNonterminal, Verdict, grammar_of, start_over_end}
+use Rattle.grammar.specs.Refusals.{refusal_of}
 use Rattle.grammar.specs.Theory.Conditions.{lowest_unique}
+use Rattle.grammar.specs.Theory.Outcomes.{verdict_same}
 use Rattle.grammar.specs.Theory.Tables.{Inner, Shared, Pushes}
 use Rattle.grammar.specs.declared.Refusal.{Refusal}
+use Rattle.grammar.specs.declared.Refusal.TheVariants.{BadShape}
+use Rattle.std.specs.Result.{result_ok}
+use Rattle.std.proofs.lemmas.Option.{MatchOption-at_some}
+use Rattle.verdict.specs.Judge.{refused_5}
 use Rattle.base.specs.Blank.{Blank}
 use Rattle.base.specs.Telling.{Tells}
-use Rattle.shape.specs.Ready.{Ready}
 use Rattle.mentions.specs.Mentions.{MentionsOf}
 use Rattle.costs.specs.Costed.{Costed}
 use Rattle.firsts.specs.Masks.{FirstsOf}
 use Rattle.verdict.specs.Parts.{part_length, inside_part, before_part}
 use Rattle.verdict.specs.Prices.{Limited, Limits, LimitOf, priced, price_limit, ruled}
 use Rattle.verdict.specs.Sets.{SetsOf}
-use Rattle.verdict.specs.declared.Checked.{Checked}
-use Rattle.verdict.specs.declared.Checked.TheVariants.{Accepted, Refused}
-
--- What each answer stands for: nothing refused, or the refusal.
-abbrev pub check_of : Checked → Option Refusal
-check_of Accepted = none
-check_of (Refused r) = some r
 
 -- The table of which rules mention a nonterminal is filled, and r tells whether every nonterminal is reachable; then the other table holds
 -- nothing.
@@ -39,9 +37,9 @@ pub record Predicted (ws l : List ℕ) (r : Bool) : Type 0 where
   pub exact : FirstsOf ws l
   pub tells : Tells (NoneShared (RuleOf ws) start_over_end) r
 
--- Accepted words: where each rule stands, and the costs and sets on which the verdict rests.
-pub record Passing (ws places costs sets : List ℕ) : Type 0 where
-  pub ready : Ready ws places
+-- Accepted words: the costs and sets on which the verdict rests.
+pub record Passing (ws costs sets : List ℕ) : Type 0 where
+  pub shaped : Shaped ws
   pub costed : Costed ws costs
   pub limited : Limited ws costs
   pub exact : SetsOf ws sets
@@ -58,20 +56,20 @@ pub record Tables (ws sets prices sides rows : List ℕ) : Type 0 where
   pub pushes : Pushes (grammar_of ws) (nonterminal_count ws) (rule_count ws) sides rows
 
 -- The answer is the verdict, and more is known of accepted words.
-pub record Answered (ws : List ℕ) (Known : Type 0) (a : Checked) : Type 0 where
-  pub verdict : Verdict ws (check_of a)
-  pub known : a ≡ Accepted → Known
+pub record Answered (ws : List ℕ) (Known : Type 0) (a : Result (Unit {0}) Refusal) : Type 0 where
+  pub verdict : Verdict ws (refusal_of a)
+  pub known : a ≡ Ok tt → Known
 
 -- The answer of the test, with what it leaves behind it.
-abbrev pub Judged : List ℕ → List ℕ → List ℕ → List ℕ → Checked → Type 0
-Judged ws places costs sets r = Answered ws (Passing ws places costs sets) r
+abbrev pub Judged : List ℕ → List ℕ → List ℕ → Result (Unit {0}) Refusal → Type 0
+Judged ws costs sets r = Answered ws (Passing ws costs sets) r
 
 -- The answer where the costs and the cheapest rules are filled in.
-abbrev pub PricedAs : List ℕ → List ℕ → Checked → Type 0
+abbrev pub PricedAs : List ℕ → List ℕ → Result (Unit {0}) Refusal → Type 0
 PricedAs ws prices r = Answered ws (Priced ws prices) r
 
 -- The answer where the tables are filled.
-abbrev pub Tabled : List ℕ → List ℕ → List ℕ → List ℕ → List ℕ → Checked → Type 0
+abbrev pub Tabled : List ℕ → List ℕ → List ℕ → List ℕ → List ℕ → Result (Unit {0}) Refusal → Type 0
 Tabled ws sets prices sides rows r = Answered ws (Tables ws sets prices sides rows) r
 
 -- The sizes of the lent tables. In the first two nothing stands yet: who lends them has just made them, and they are not cleared again.
@@ -81,31 +79,45 @@ pub record Sizes (sets prices sides rows : List ℕ) : Type 0 where
   pub sides_size : length sides ≡ 512
   pub rows_size : length rows ≡ 4224
 
-pub accepting : {ws : List ℕ} {Known : Type 0} → Verdict ws none → Known → Answered ws Known Accepted
+pub accepting : {ws : List ℕ} {Known : Type 0} → Verdict ws none → Known → Answered ws Known (Ok tt)
 accepting v k = record { verdict = v; known = λ _. k }
 
-pub refusing : {ws : List ℕ} {Known : Type 0} {r : Refusal} → Verdict ws (some r) → Answered ws Known (Refused r)
+pub refusing : {ws : List ℕ} {Known : Type 0} {r : Refusal} → Verdict ws (some r) → Answered ws Known (Err r)
 refusing v = record { verdict = v; known = λ e. absurd (let z : ◌≡◌ {A = ℕ} 0 1 = cc in omega arith) }
 
 -- Less is known where only the costs and the cheapest rules are asked for.
-pub judged_priced : {ws places prices sets : List ℕ} {a : Checked} → Judged ws places prices sets a → PricedAs ws prices a
+pub judged_priced : {ws prices sets : List ℕ} {a : Result (Unit {0}) Refusal} → Judged ws prices sets a → PricedAs ws prices a
 judged_priced k =
     record {
       verdict = k.verdict;
-      known = λ e. let p = k.known e in record { shaped = p.ready.shaped; costed = p.costed; limited = p.limited };
+      known = λ e. let p = k.known e in record { shaped = p.shaped; costed = p.costed; limited = p.limited };
     }
 
 -- The verdict in an arm that knows the answer.
-pub verdict_in : {ws : List ℕ} {Known : Type 0} {a b : Checked} → Answered ws Known a → a ≡ b → Verdict ws (check_of b)
-verdict_in {ws} k e = subst (λ x. Verdict ws (check_of x)) e k.verdict
+pub verdict_in : {ws : List ℕ} {Known : Type 0} {a b : Result (Unit {0}) Refusal} → Answered ws Known a → a ≡ b → Verdict ws (refusal_of b)
+verdict_in {ws} k e = subst (λ x. Verdict ws (refusal_of x)) e k.verdict
+
+-- Rules are there, of these words,
+pub rules_are : {ws rules : List ℕ} (o : Option (List ℕ)) (r : Result (List ℕ) Refusal) → IfSome o (λ l. l ≡ ws) → o ≡ result_ok r
+    → r ≡ Ok rules → rules ≡ ws
+rules_are o r is e f = MatchOption-at_some ⊤ _ _ (e ∙ ap result_ok f) is
+
+-- or the words have no shape.
+pub no_rules : {ws : List ℕ} {Known : Type 0} {q s : Refusal} (o : Option (List ℕ)) (r : Result (List ℕ) Refusal) → IsSome o ↔ Shaped ws
+    → r ≡ ok_or o BadShape → r ≡ Err q → s ≡ q → Answered ws Known (Err s)
+no_rules {ws} {Known} {s = s} None r is e f same =
+    let due : Answered ws Known (Err BadShape) = refusing (refused_5 ws (λ h. true≢false (sym (is.1 h)))) in
+    let bad : BadShape ≡ s = cc in
+    subst (λ r. Answered ws Known (Err r)) bad due
+no_rules (Some x) r is e f same = absurd (let z : ◌≡◌ {A = ℕ} 0 1 = cc in omega arith)
 
 -- ---- The shared tables
 
 -- Costs came back in front of the limits.
-pub shared : {ws places costs sets : List ℕ} (prices limits : List ℕ) → Passing ws places costs sets → length prices ≡ 256
+pub shared : {ws costs sets : List ℕ} (prices limits : List ℕ) → Passing ws costs sets → length prices ≡ 256
     → Limits ws (terminal_count ws) limits
     → Shared (grammar_of ws) (terminal_count ws) (nonterminal_count ws) sets (put_mid 192 64 (put_mid 0 192 prices costs) limits)
-shared {ws} {places} {costs} {sets} prices limits p size l =
+shared {ws} {costs} {sets} prices limits p size l =
     record {
       sets_size = p.exact.size;
       first = p.exact.first;
@@ -124,7 +136,7 @@ shared {ws} {places} {costs} {sets} prices limits p size l =
     }
   where
     shaped : Shaped ws
-    shaped = p.ready.shaped
+    shaped = p.shaped
 
     mid : List ℕ
     mid = put_mid 0 192 prices costs
@@ -149,12 +161,6 @@ shared {ws} {places} {costs} {sets} prices limits p size l =
 
 -- ---- One answer
 
-same_check : (a b : Checked) → check_of a ≡ check_of b → a ≡ b
-same_check Accepted Accepted e = refl
-same_check Accepted (Refused r) e = absurd (let z : ◌≡◌ {A = ℕ} 0 1 = cc in omega arith)
-same_check (Refused r) Accepted e = absurd (let z : ◌≡◌ {A = ℕ} 0 1 = cc in omega arith)
-same_check (Refused r) (Refused q) e = let same : r ≡ q = cc in ap (λ x. Refused x) same
-
 -- Two answers that the contract of `check` allows for the same words are equal.
-pub check_unique : (ws : List ℕ) (a b : Checked) → Verdict ws (check_of a) → Verdict ws (check_of b) → a ≡ b
-check_unique ws a b v w = same_check a b (lowest_unique v w)
+pub check_unique : (ws : List ℕ) (a b : Result (Unit {0}) Refusal) → Verdict ws (refusal_of a) → Verdict ws (refusal_of b) → a ≡ b
+check_unique ws a b v w = verdict_same a b (lowest_unique v w)

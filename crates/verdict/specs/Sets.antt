@@ -5,7 +5,6 @@ use borrow.Rule.Slice.PartMut.{put_mid}
 use Rattle.grammar.specs.Words.{Shaped, nonterminal_count}
 use Rattle.grammar.specs.Grammar.{RuleOf}
 use Rattle.grammar.specs.Theory.Masks.{FirstMask, NullMask}
-use Rattle.shape.specs.Ready.{Ready}
 use Rattle.firsts.specs.Asked.{Asked}
 use Rattle.firsts.specs.Masks.{FirstsOf}
 use Rattle.verdict.specs.Parts.{part_at, part_length, inside_part}
@@ -36,14 +35,14 @@ sets_filled {ws} sets firsts null s size sizes f nulls =
         ∙ inside_part 0 64 sets firsts (omega arith) sizes k k (omega arith) h
 
 -- The part of it that is lent for FIRST.
-module _ {ws places sets : List ℕ} (ready : Ready ws places) (e : SetsOf ws sets) where
-  pub sets_asked : Asked ws places (get_or sets 64 0) (take 64 (drop 0 sets))
-  sets_asked = record { ready = ready; nulls = e.nulls; size = length-take-le 64 sets (omega (arith, e.size)) }
+module _ {ws sets : List ℕ} (shaped : Shaped ws) (e : SetsOf ws sets) where
+  pub sets_asked : Asked ws (get_or sets 64 0) (take 64 (drop 0 sets))
+  sets_asked = record { shaped = shaped; nulls = e.nulls; size = length-take-le 64 sets (omega (arith, e.size)) }
 
   pub sets_firsts : FirstsOf ws (take 64 (drop 0 sets))
   sets_firsts =
       record {
         first = λ k h.
-            let same = part_at 0 64 sets k k (omega arith) (omega (arith, ready.shaped.nonterminals_high)) in
+            let same = part_at 0 64 sets k k (omega arith) (omega (arith, shaped.nonterminals_high)) in
             subst (FirstMask (RuleOf ws) ((64 + k) ∷ [])) (sym same) (e.first k h);
       }

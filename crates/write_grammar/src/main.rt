@@ -2,5 +2,5 @@
 #![tactic(auto)]
 
 fn main(rt: HostRuntime) {
-    making::run(&mut rt.stdin());
+    making::run(&rt, &mut rt.stdin());
 }

@@ -11,8 +11,8 @@ use native.Mathlib.Omega.{arith}
 use mathlib.Core.Path.{◌≡◌, refl, sym, ap, ap₂, ◌∙◌}
 use mathlib.Core.List.{List, [], ◌∷◌, ◌++◌, append_assoc}
 use mathlib.Core.Logic.{⊎_elim}
-use lib.ListN.{length, get_or, take, drop, set, replicate, length-append, length-take, length-drop}
-use lib.Seq.{length-take-le, take-suc, take_all, get_or-drop, get_or-append-add}
+use lib.ListN.{length, get_or, take, drop, set, replicate, length-append, length-take}
+use lib.Seq.{length-take-le, take-suc, take_all, get_or-append-add}
 use Rattle.base.specs.Telling.{below_or_not}
 use Rattle.base.specs.Written.{written, written_none, written_more, written_then}
 use Rattle.grammar.specs.Buffers.{filled, cleared}
@@ -59,48 +59,41 @@ put_behind old at place ns ms l first here second =
 
 -- ---- The words of a block
 
--- The first i words from a place of the list on stand in the buffer, from the byte `at` on.
-pub record WordsPut (ws old bytes : List ℕ) (from at i : ℕ) : Type 0 where
+-- The first i words stand in the buffer, from the byte `at` on.
+pub record WordsPut (ws old bytes : List ℕ) (at i : ℕ) : Type 0 where
   pub same : length bytes ≡ length old
-  pub holds : bytes ≡ written old at (bytes_of (take i (drop from ws)))
+  pub holds : bytes ≡ written old at (bytes_of (take i ws))
 
-pub words_begin : (ws old : List ℕ) (from at : ℕ) → WordsPut ws old old from at 0
+pub words_begin : (ws old : List ℕ) (at : ℕ) → WordsPut ws old old at 0
 unfolding bytes_of
-words_begin ws old from at = record { same = refl; holds = sym (written_none old at) }
+words_begin ws old at = record { same = refl; holds = sym (written_none old at) }
 
-pub words_go : {ws old bytes then : List ℕ} {from at i : ℕ} → WordsPut ws old bytes from at i → from + i < length ws → at ≤ length old
-    → length then ≡ length bytes → then ≡ written bytes (at + 2 * i) (bytes_of (get_or ws (from + i) 0 ∷ []))
-    → WordsPut ws old then from at (i + 1)
-words_go {ws} {old} {bytes} {then} {from} {at} {i} r l room same put =
-    let all : List ℕ = drop from ws in
-    let word : ℕ = get_or ws (from + i) 0 in
-    let size : length (take i all) ≡ i = length-take-le i all (omega (arith, length-drop from ws)) in
-    let here : at + 2 * i ≡ at + 2 * length (take i all) = omega arith in
-    let more : take i all ++ (word ∷ []) ≡ take (i + 1) all =
-    ap (λ (w : ℕ). take i all ++ (w ∷ [])) (sym (get_or-drop from ws i 0))
-    ∙ (sym (take-suc all i 0 (omega (arith, length-drop from ws))) ∙ ap (λ (n : ℕ). take n all) (sym (add-one i))) in
+pub words_go : {ws old bytes then : List ℕ} {at i : ℕ} → WordsPut ws old bytes at i → i < length ws → at ≤ length old
+    → length then ≡ length bytes → then ≡ written bytes (at + 2 * i) (bytes_of (get_or ws i 0 ∷ []))
+    → WordsPut ws old then at (i + 1)
+words_go {ws} {old} {bytes} {then} {at} {i} r l room same put =
+    let word : ℕ = get_or ws i 0 in
+    let here : at + 2 * i ≡ at + 2 * length (take i ws) = omega (arith, length-take-le i ws (omega arith)) in
+    let more : take i ws ++ (word ∷ []) ≡ take (i + 1) ws = sym (take-suc ws i 0 l) ∙ ap (λ (n : ℕ). take n ws) (sym (add-one i)) in
     record {
       same = same ∙ r.same;
-      holds =
-          put_behind old at (at + 2 * i) (take i all) (word ∷ []) room r.holds here put
+      holds = put_behind old at (at + 2 * i) (take i ws) (word ∷ []) room r.holds here put
           ∙ ap (λ (ns : List ℕ). written old at (bytes_of ns)) more;
     }
 
-pub words_end : {ws old bytes : List ℕ} {from at i : ℕ} (used : ℕ) → WordsPut ws old bytes from at i → i ≡ used
-    → bytes ≡ written old at (bytes_of (take used (drop from ws)))
-words_end {ws} {old} {from = from} {at = at} used r end = r.holds ∙ ap (λ (n : ℕ). written old at (bytes_of (take n (drop from ws)))) end
+pub words_end : {ws old bytes : List ℕ} {at i : ℕ} → WordsPut ws old bytes at i → length ws ≤ i → bytes ≡ written old at (bytes_of ws)
+words_end {ws} {old} {at = at} {i = i} r end = r.holds ∙ ap (λ (ns : List ℕ). written old at (bytes_of ns)) (take_all i ws end)
 
 -- ---- A block
 
 -- As many words as the block holds.
-module _ (ws : List ℕ) (k : ℕ) {used : ℕ} (count : used ≡ min 253 (length ws - 253 * k)) where
+module _ (ws : List ℕ) (k : ℕ) {used : ℕ} (count : used ≡ min (length (drop (253 * k) ws)) 253) where
   used_is : used ≡ length (held_by ws k)
-  used_is = count ∙ sym (length-take 253 (drop (253 * k) ws) ∙ ap (λ (n : ℕ). min 253 n) (length-drop (253 * k) ws))
+  used_is = omega (arith, length-take 253 (drop (253 * k) ws))
 
   used_held : take used (drop (253 * k) ws) ≡ held_by ws k
   used_held =
       let all : List ℕ = drop (253 * k) ws in
-      let size : length all ≡ length ws - 253 * k = length-drop (253 * k) ws in
       ⊎_elim (λ less. take_all used all (omega arith) ∙ sym (take_all 253 all (omega arith)))
       (λ more. let full : used ≡ 253 = omega arith in ap (λ (n : ℕ). take n all) full)
       (below_or_not (length all) 253)
@@ -154,7 +147,7 @@ module _ (ws : List ℕ) (k room : ℕ) (fits : 512 * k + 512 ≤ room) where
       ∙ (ap (λ (b : List ℕ). first_blocks ws k ++ b) (sym (block_splits ws k)) ∙ ap (first_blocks ws) (sym (add-one k)))
 
   pub block_put : {old one two three four : List ℕ} {used check : ℕ} → old ≡ filled room (first_blocks ws k)
-      → used ≡ min 253 (length ws - 253 * k) → one ≡ written old (512 * k) (bytes_of (k ∷ []))
+      → used ≡ min (length (drop (253 * k) ws)) 253 → one ≡ written old (512 * k) (bytes_of (k ∷ []))
       → two ≡ written one (512 * k + 2) (bytes_of (used ∷ []))
       → three ≡ written two (512 * k + 4) (bytes_of (take used (drop (253 * k) ws)))
       → check ≡ weighted_sum three (512 * k) (4 + 2 * used) % 65521 → four ≡ written three (512 * k + 510) (bytes_of (check ∷ []))

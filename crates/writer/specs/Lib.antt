@@ -1,3 +1,2 @@
 -- What the writer of grammar files answers, in the words of the crate grammar.
-pub mod Answer
 pub mod Unique

@@ -1,10 +1,7 @@
-use Prim.Native.Nat.{◌*◌, ◌-◌, ◌≤◌}
+use Prim.Native.Nat.{◌*◌, ◌≤◌}
 use mathlib.Core.Path.{◌≡◌}
 use Rattle.grammar.specs.File.{weighted_sum}
 use Rattle.block.proofs.weighted_sum.Given as goal
 
 abbrev pub invariant-loop-i : goal.invariant-loop-i
-invariant-loop-i l = (l.i ≤ l.size) × (l.sum ≡ weighted_sum l.bytes l.start l.i) × (l.sum ≤ 130050 * l.i)
-
-abbrev pub decreases-loop-i : goal.decreases-loop-i
-decreases-loop-i l = l.size - l.i
+invariant-loop-i l = (l.sum ≡ weighted_sum l.bytes 0 l.i) × (l.sum ≤ 130050 * l.i)

@@ -4,8 +4,8 @@ use Rattle.grammar.specs.Theory.Tables.{sized_of}
 use Rattle.correction.specs.Deleting.{Deleted}
 use Rattle.correction.proofs.correct.Given as goal
 
-abbrev pub invariant-loop-r : goal.invariant-loop-r
-invariant-loop-r l = Deleted (sized_of l.words) l.log l.stack l.initial.edits l.initial.q l.q l.edits
+abbrev pub invariant-loop-i : goal.invariant-loop-i
+invariant-loop-i l = Deleted (sized_of l.words) l.log l.stack l.initial.edits l.initial.q l.q l.edits
 
-abbrev pub decreases-loop-r : goal.decreases-loop-r
-decreases-loop-r l = length l.log + 1 - l.q.place
+abbrev pub decreases-loop-i : goal.decreases-loop-i
+decreases-loop-i l = length l.log + 1 - l.q.place

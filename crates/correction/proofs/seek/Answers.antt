@@ -5,17 +5,14 @@ use Rattle.correction.specs.Searching.{token_below, symbol_low, seek_none, seek_
 use Rattle.correction.proofs.Hits.{seek_hit}
 use Rattle.correction.proofs.seek.Goals as goal
 
-pub overflow_add-limit : goal.overflow_add-limit
-overflow_add-limit c = omega (arith, c.wide.ensures.upper_bound)
+pub offset_bounds-prices-from : goal.offset_bounds-prices-from
+offset_bounds-prices-from c = omega (arith, c.from.ensures, token_below c.requires _ _ c.token_at-t.ensures)
 
-pub offset_bounds-prices-wide : goal.offset_bounds-prices-wide
-offset_bounds-prices-wide c = omega (arith, c.wide.ensures.value, token_below c.requires _ _ c.token_at-t.ensures)
-
-pub bounds-prices-wide : goal.bounds-prices-wide
-bounds-prices-wide c =
+pub bounds-prices-from : goal.bounds-prices-from
+bounds-prices-from c =
     omega (
       arith,
-      c.wide.ensures.value,
+      c.from.ensures,
       token_below c.requires _ _ c.token_at-t.ensures,
       c.requires.known.shared.prices_size,
     )
@@ -25,7 +22,7 @@ loop-i-init c = seek_none c.requires _ _ c.token_at-t.ensures
 
 pub returns-then-limit-cost : goal.returns-then-limit-cost
 returns-then-limit-cost c =
-    seek_dear c.requires _ _ c.token_at-t.ensures _ _ _ (ap (λ k. limit_by c.args.prices.now k) c.wide.ensures.value)
+    seek_dear c.requires _ _ c.token_at-t.ensures _ _ _ (ap (λ k. limit_by c.args.prices.now k) c.from.ensures)
     c.if-limit-cost.true c.loop-i.invariant
 
 pub offset_bounds-stack-height : goal.offset_bounds-stack-height
@@ -44,30 +41,27 @@ begins-requires c = (
 pub returns-then-begins : goal.returns-then-begins
 returns-then-begins c =
     seek_hit c.requires _ _ c.token_at-t.ensures _ _ _ c.loop-i-test.true c.begins.ensures c.if-begins.true
-    (ap (λ k. limit_by c.args.prices.now k) c.wide.ensures.value) c.if-limit-cost.false c.loop-i.invariant
+    (ap (λ k. limit_by c.args.prices.now k) c.from.ensures) c.if-limit-cost.false c.loop-i.invariant
 
-pub offset_bounds-prices-wide-in-loop-i : goal.offset_bounds-prices-wide-in-loop-i
-offset_bounds-prices-wide-in-loop-i c = omega (arith, c.wide-in-loop-i.ensures.value, symbol_low c.requires _ _ c.token_at-t.ensures _ c.loop-i-test.true)
+pub offset_bounds-prices-from-in-loop-i : goal.offset_bounds-prices-from-in-loop-i
+offset_bounds-prices-from-in-loop-i c = omega (arith, c.from-in-loop-i.ensures, symbol_low c.requires _ _ c.token_at-t.ensures _ c.loop-i-test.true)
 
-pub bounds-prices-wide-in-loop-i : goal.bounds-prices-wide-in-loop-i
-bounds-prices-wide-in-loop-i c =
+pub bounds-prices-from-in-loop-i : goal.bounds-prices-from-in-loop-i
+bounds-prices-from-in-loop-i c =
     omega (
       arith,
-      c.wide-in-loop-i.ensures.value,
+      c.from-in-loop-i.ensures,
       symbol_low c.requires _ _ c.token_at-t.ensures _ c.loop-i-test.true,
       c.requires.known.shared.prices_size,
     )
 
 pub overflow_add-cost : goal.overflow_add-cost
-overflow_add-cost c = omega (arith, seek_fits c.requires _ _ c.token_at-t.ensures _ _ _ c.loop-i-test.true c.wide-in-loop-i.ensures.value c.loop-i.invariant)
-
-pub overflow_add-i : goal.overflow_add-i
-overflow_add-i c = omega (arith, c.requires.low)
+overflow_add-cost c = omega (arith, seek_fits c.requires _ _ c.token_at-t.ensures _ _ _ c.loop-i-test.true c.from-in-loop-i.ensures c.loop-i.invariant)
 
 pub loop-i-preserved : goal.loop-i-preserved
 loop-i-preserved c =
     seek_more c.requires _ _ c.token_at-t.ensures _ _ _ c.loop-i-test.true c.begins.ensures c.if-begins.false
-    c.wide-in-loop-i.ensures.value
+    c.from-in-loop-i.ensures
     c.loop-i.invariant
 
 pub returns : goal.returns

@@ -1,4 +1,3 @@
-use Prim.Native.Nat.{◌-◌}
 use Rattle.grammar.specs.Theory.Tables.{sized_of}
 use Rattle.moves.specs.Pile.{pile}
 use Rattle.correction.specs.Searching.{Walked}
@@ -6,6 +5,3 @@ use Rattle.correction.proofs.seek.Given as goal
 
 abbrev pub invariant-loop-i : goal.invariant-loop-i
 invariant-loop-i l = Walked (sized_of l.words) l.prices (pile l.stack l.height) l.t l.i l.cost
-
-abbrev pub decreases-loop-i : goal.decreases-loop-i
-decreases-loop-i l = l.height - l.i

@@ -8,39 +8,27 @@ use Rattle.costs.proofs.Listing.{left, spans, list_begins, list_goes, list_ends,
 use Rattle.std.proofs.Common.{rules}
 use Rattle.costs.proofs.costs.Goals as goal
 
-pub begin-requires : goal.begin-requires
-begin-requires c = record {
-  shaped = c.requires.ready.shaped;
-  blank = c.requires.blank;
-}
-
-pub rule_count-requires : goal.rule_count-requires
-rule_count-requires c = c.requires.ready.shaped
-
 pub visit_row-list-requires : goal.visit_row-list-requires
 visit_row-list-requires c = record {
-  ready = c.requires.ready;
+  shaped = c.rule_count.ensures.shaped;
   mentions_of = c.requires.mentions_of;
   row_bound = omega arith;
-  spans = spans c.requires.mentions_of c.rule_count.ensures;
-  held = c.begin.ensures.held;
+  spans = spans c.requires.mentions_of c.rule_count.ensures.value;
+  held = c.begin_nonterminals.ensures.held;
 }
 
 pub loop-list-init : goal.loop-list-init
-loop-list-init c = list_begins c.requires.ready.shaped c.begin.ensures c.requires.mentions_of c.visit_row-list.ensures
+loop-list-init c = list_begins c.rule_count.ensures.shaped c.begin_nonterminals.ensures c.requires.mentions_of c.visit_row-list.ensures
 
 pub greatest-k-requires : goal.greatest-k-requires
 greatest-k-requires c = c.loop-list-test.true
 
-pub overflow_cast-k : goal.overflow_cast-k
-overflow_cast-k c = record { fits = omega (arith, c.greatest-k.ensures.below) }
-
 pub visit_row-fallen-requires : goal.visit_row-fallen-requires
 visit_row-fallen-requires c = record {
-  ready = c.requires.ready;
+  shaped = c.rule_count.ensures.shaped;
   mentions_of = c.requires.mentions_of;
-  row_bound = omega (arith, c.greatest-k.ensures.below);
-  spans = spans c.requires.mentions_of c.rule_count.ensures;
+  row_bound = omega (arith, c.from.ensures, c.greatest-k.ensures.below);
+  spans = spans c.requires.mentions_of c.rule_count.ensures.value;
   held = c.loop-list.invariant.held;
 }
 
@@ -60,10 +48,10 @@ loop-list-smaller c =
 pub loop-list-preserved : goal.loop-list-preserved
 loop-list-preserved c =
     rw c.union-list.ensures (rw c.without.ensures
-    (list_goes c.requires.mentions_of c.loop-list.invariant c.greatest-k.ensures c.visit_row-fallen.ensures))
+    (list_goes c.requires.mentions_of c.loop-list.invariant c.greatest-k.ensures (rw c.from.ensures at c.visit_row-fallen.ensures)))
 
 pub shape_of-table : goal.shape_of-table
 shape_of-table c = c.loop-list.invariant.held.size ∙ sym c.requires.blank.size
 
 pub returns : goal.returns
-returns c = stands_costed _ _ c.requires.ready.shaped (list_ends c.loop-list.invariant (omega (arith, c.loop-list-test.false)))
+returns c = stands_costed _ _ c.rule_count.ensures.shaped (list_ends c.loop-list.invariant (omega (arith, c.loop-list-test.false)))

@@ -2,8 +2,5 @@ use Rattle.costs.specs.Held.{entry}
 use Rattle.costs.proofs.Summing.{Summed}
 use Rattle.costs.proofs.rule_cost.Given as goal
 
-abbrev pub invariant-loop-i : goal.invariant-loop-i
-invariant-loop-i l = Summed l.words l.p (entry l.table) l.i l.sum
-
-abbrev pub decreases-loop-i : goal.decreases-loop-i
-decreases-loop-i l = l.i
+abbrev pub invariant-loop-x : goal.invariant-loop-x
+invariant-loop-x l = Summed (entry l.table) l.x-items l.x-index l.sum

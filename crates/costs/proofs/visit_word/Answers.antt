@@ -14,21 +14,17 @@ least-i-requires c = c.loop-rest-test.true
 pub overflow_mul-w : goal.overflow_mul-w
 overflow_mul-w c =
     let rule = c.requires.rules_of c.least-i.result c.least-i.ensures.below
-    (c.loop-rest.invariant.within c.least-i.result c.least-i.ensures.held) in omega (arith, c.requires.ready.shaped.rules_high)
-
-pub overflow_cast-i : goal.overflow_cast-i
-overflow_cast-i c = record { fits = omega (arith, c.least-i.ensures.below) }
+    (c.loop-rest.invariant.within c.least-i.result c.least-i.ensures.held) in omega (arith, c.requires.shaped.rules_high)
 
 pub overflow_add-w : goal.overflow_add-w
 overflow_add-w c =
     let rule = c.requires.rules_of c.least-i.result c.least-i.ensures.below
-    (c.loop-rest.invariant.within c.least-i.result c.least-i.ensures.held) in omega (arith, c.requires.ready.shaped.rules_high)
+    (c.loop-rest.invariant.within c.least-i.result c.least-i.ensures.held) in omega (arith, c.from.ensures, c.requires.shaped.rules_high)
 
 pub visit-more-requires : goal.visit-more-requires
 visit-more-requires c = record {
-  ready = c.requires.ready;
-  p_bound = c.requires.rules_of c.least-i.result c.least-i.ensures.below
-      (c.loop-rest.invariant.within c.least-i.result c.least-i.ensures.held);
+  p_bound = rw c.from.ensures (c.requires.rules_of c.least-i.result c.least-i.ensures.below
+      (c.loop-rest.invariant.within c.least-i.result c.least-i.ensures.held));
   held = c.loop-rest.invariant.revised.held;
 }
 
@@ -42,7 +38,7 @@ pub loop-rest-smaller : goal.loop-rest-smaller
 loop-rest-smaller c = omega (arith, without_less _ _ c.least-i.ensures.held, c.without-rest.ensures)
 
 pub loop-rest-preserved : goal.loop-rest-preserved
-loop-rest-preserved c = rw c.without-rest.ensures (rw c.union-fallen.ensures (word_goes c.loop-rest.invariant c.least-i.ensures c.visit-more.ensures))
+loop-rest-preserved c = rw c.without-rest.ensures (rw c.union-fallen.ensures (word_goes c.loop-rest.invariant c.least-i.ensures (rw c.from.ensures at c.visit-more.ensures)))
 
 pub shape_of-table : goal.shape_of-table
 shape_of-table c = c.loop-rest.invariant.revised.held.size ∙ sym c.requires.held.size

@@ -1,26 +1,31 @@
 -- `desk::costs` meets its contract: both buffers are clear when the words are judged, and stay so where they are refused.
-use Rattle.grammar.specs.Theory.Fills.{made_clear, lent_clear}
+use Rattle.grammar.specs.Theory.Fills.{lent_clear}
+use Rattle.std.proofs.lemmas.Result.{err_from_is_err_and}
+use Rattle.std.proofs.Common.{arith}
+use Rattle.std.proofs.lemmas.Grind.{common_steps}
 use Rattle.base.specs.Blank.{blank_made}
 use Rattle.verdict.specs.Answer.{verdict_in}
-use Rattle.desk.proofs.Listing.{unchecked, as_lent}
+use Rattle.desk.proofs.Listing.{zeros, unchecked, as_lent}
 use Rattle.desk.proofs.costs.Goals as goal
 
-pub priced-checked-requires : goal.priced-checked-requires
-priced-checked-requires c = blank_made 192
+pub priced-requires : goal.priced-requires
+priced-requires c = blank_made 192
 
 pub list-requires : goal.list-requires
 list-requires c =
     record {
-      accepts = verdict_in c.priced-checked.ensures c.in-Accepted.is;
-      priced = c.priced-checked.ensures.known c.in-Accepted.is;
-      costs_clear = lent_clear c.clear_words.auto.buffer (made_clear _ c.clear_words.ensures);
-      rules_clear = lent_clear c.clear_words-2.auto.buffer (made_clear _ c.clear_words-2.ensures);
+      accepts = verdict_in c.priced.ensures c.in_ok-priced.was;
+      priced = c.priced.ensures.known c.in_ok-priced.was;
+      costs_clear = lent_clear c.fill.auto.self (zeros _ (grind (arith, common_steps)));
+      rules_clear = lent_clear c.fill-2.auto.self (zeros _ (grind (arith, common_steps)));
     }
 
-pub returns-in-Accepted : goal.returns-in-Accepted
-returns-in-Accepted c = as_lent c.clear_words.auto.buffer c.clear_words-2.auto.buffer c.list.ensures
+pub returns-in_err-priced : goal.returns-in_err-priced
+returns-in_err-priced c =
+    let p = err_from_is_err_and c.from_residual.result c.from_residual.ensures.1 in
+    rw (p.1, p.2)
+    (unchecked _ _ (zeros _ (grind (arith, common_steps))) (zeros _ (grind (arith, common_steps)))
+    (verdict_in c.priced.ensures c.in_err-priced.was))
 
-pub returns-in-Refused : goal.returns-in-Refused
-returns-in-Refused c =
-    unchecked _ _ (made_clear _ c.clear_words.ensures)
-    (made_clear _ c.clear_words-2.ensures) (verdict_in c.priced-checked.ensures c.in-Refused.is)
+pub returns : goal.returns
+returns c = as_lent c.fill.auto.self c.fill-2.auto.self c.list.ensures

@@ -1,15 +1,9 @@
--- `exports::odhrashup_write` meets its contract: one count over a cleared buffer, or the buffer cleared.
-use mathlib.Core.Path.{ap, refl}
-use Rattle.writer.specs.Answer.{writing_of}
-use Rattle.exports.proofs.Answering.{answers, refuses, one_count}
+-- `exports::odhrashup_write` meets its contract: one count over blank cells, or blank cells.
+use Rattle.exports.proofs.Answering.{answers, refuses}
 use Rattle.exports.proofs.odhrashup_write.Goals as goal
 
-pub returns-in-Bytes : goal.returns-in-Bytes
-returns-in-Bytes c =
-    answers c.write-writing.ensures (ap writing_of c.in-Bytes.is) refl
-    (one_count _ _ c.clear_numbers.ensures c.put.ensures)
+pub returns-in-Ok : goal.returns-in-Ok
+returns-in-Ok c = answers _ c.in-Ok.ensures c.accepted.ensures.status c.accepted.ensures.counts
 
-pub returns-in-Refused : goal.returns-in-Refused
-returns-in-Refused c =
-    refuses c.write-writing.ensures (ap writing_of c.in-Refused.is) c.clear_numbers.ensures
-    c.number_of.ensures
+pub returns-in-Err : goal.returns-in-Err
+returns-in-Err c = refuses _ c.in-Err.ensures c.refused.ensures.status c.refused.ensures.counts

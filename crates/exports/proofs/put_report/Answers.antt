@@ -1,13 +1,24 @@
 -- `exports::put_report` meets its contract: two counts, and the mean or NaN.
-use mathlib.Core.Path.{refl}
+use Rattle.std.proofs.Common.{sym, ap, ◌∙◌, [], ◌∷◌}
+use lib.Ieee.{Float}
 use Rattle.exports.specs.Status.{pace_float, pace_status}
-use Rattle.exports.proofs.Answering.{puts, no_number}
+use Rattle.exports.proofs.Answering.{no_number, over_zeros}
 use Rattle.exports.proofs.put_report.Goals as goal
 
-pub returns-in-Mean : goal.returns-in-Mean
-unfolding pace_float pace_status
-returns-in-Mean c = puts c.put.ensures c.put-2.ensures c.in-Mean.is refl c.put_mean.ensures
+pub returns-in-Mean-clause-status : goal.returns-in-Mean-clause-status
+unfolding pace_status
+returns-in-Mean-clause-status c = sym (ap pace_status c.in-Mean.is)
 
-pub returns-in-Idle : goal.returns-in-Idle
-unfolding pace_float pace_status
-returns-in-Idle c = puts c.put.ensures c.put-2.ensures c.in-Idle.is no_number c.put_mean-in-Idle.ensures
+pub returns-in-Mean-clause-mean : goal.returns-in-Mean-clause-mean
+unfolding pace_float
+returns-in-Mean-clause-mean c =
+    over_zeros _ c.fit-in-Mean.ensures (ap (λ (x : Float). x ∷ []) (sym (ap pace_float c.in-Mean.is)))
+
+pub returns-in-Idle-clause-status : goal.returns-in-Idle-clause-status
+unfolding pace_status
+returns-in-Idle-clause-status c = sym (ap pace_status c.in-Idle.is)
+
+pub returns-in-Idle-clause-mean : goal.returns-in-Idle-clause-mean
+unfolding pace_float
+returns-in-Idle-clause-mean c =
+    over_zeros _ c.fit-in-Idle.ensures (ap (λ (x : Float). x ∷ []) (no_number ∙ sym (ap pace_float c.in-Idle.is)))

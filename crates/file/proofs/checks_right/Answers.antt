@@ -1,17 +1,19 @@
--- `file::checks_right` meets its contract: the checks of the blocks in front of k are right. The measure is what is left.
-use native.Mathlib.Omega.{arith}
-use borrow.Author.Count.{below_more}
-use Rattle.base.specs.Telling.{told, denied}
+-- `file::checks_right` meets its contract: each block's test tells whether its check is right.
+use mathlib.Core.List.{[]}
+use Rattle.std.proofs.Common.{rules, tests, true, false}
+use Rattle.std.proofs.lemmas.Iterator.{cases_from_all}
+use Rattle.base.specs.Telling.{Tells}
+use Rattle.grammar.specs.Theory.Files.{CheckRight}
+use Rattle.file.proofs.Blocks.{check_block}
+use Rattle.file.proofs.Roads.{blocks_road, in_length, in_block, tells_each}
 use Rattle.file.proofs.checks_right.Goals as goal
 
-pub loop-k-init : goal.loop-k-init
-loop-k-init c = (omega arith, λ j l. absurd (omega arith))
-
-pub returns-else-check_right : goal.returns-else-check_right
-returns-else-check_right c = denied (λ right. c.check_right.ensures.no c.if-check_right.false (right _ c.loop-k-test.true))
-
-pub loop-k-preserved : goal.loop-k-preserved
-loop-k-preserved c = (omega arith, below_more _ _ c.loop-k.invariant.1 (c.check_right.ensures.yes c.if-check_right.true))
-
 pub returns : goal.returns
-returns c = told (λ j l. c.loop-k.invariant.1 j (omega arith))
+returns c =
+    let road = blocks_road c.chunks_exact.result c.args.bytes.now c.chunks_exact.ensures.size c.chunks_exact.ensures.rest in
+    tells_each c.args.bytes.now (CheckRight c.args.bytes.now) (λ b r. Tells (CheckRight b 0) r) [] _ c.all.result
+    (in_length _ _)
+    (λ k b l t. check_block (in_block _ k [] l) t)
+    (cases_from_all _ _ c.all.result (λ b. Tells (CheckRight b 0) true) (λ b. Tells (CheckRight b 0) false) c.all.ensures.ran road
+    (λ x q k. search (rules, tests))
+    (λ x q k. search (rules, tests)))

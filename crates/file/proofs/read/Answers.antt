@@ -17,48 +17,48 @@ right size checks blocks = record { size = size; checks = checks; blocks = block
 
 -- ---- The answers
 
-pub returns-else-size_right : goal.returns-else-size_right
-returns-else-size_right c =
-    refuses_size _ _ (c.size_right.ensures.no c.if-size_right.false)
-    (made_clear _ c.clear_words.ensures)
+pub returns-then-not-size_right : goal.returns-then-not-size_right
+returns-then-not-size_right c =
+    refuses_size _ _ (c.size_right.ensures.no c.if-not-size_right.true)
+    (made_clear _ c.fill_from.ensures)
 
-pub returns-else-checks_right : goal.returns-else-checks_right
-returns-else-checks_right c =
+pub returns-then-not-checks_right : goal.returns-then-not-checks_right
+returns-then-not-checks_right c =
     refuses_check _ _
-    (c.size_right.ensures.yes c.if-size_right.true)
-    (c.checks_right.ensures.no c.if-checks_right.false)
-    (made_clear _ c.clear_words.ensures)
+    (c.size_right.ensures.yes c.if-not-size_right.false)
+    (c.checks_right.ensures.no c.if-not-checks_right.true)
+    (made_clear _ c.fill_from.ensures)
 
-pub returns-else-blocks_right : goal.returns-else-blocks_right
-returns-else-blocks_right c =
+pub returns-then-not-blocks_right : goal.returns-then-not-blocks_right
+returns-then-not-blocks_right c =
     refuses_block _ _
-    (c.size_right.ensures.yes c.if-size_right.true)
-    (c.checks_right.ensures.yes c.if-checks_right.true)
-    (c.blocks_right.ensures.no c.if-blocks_right.false)
-    (made_clear _ c.clear_words.ensures)
+    (c.size_right.ensures.yes c.if-not-size_right.false)
+    (c.checks_right.ensures.yes c.if-not-checks_right.false)
+    (c.blocks_right.ensures.no c.if-not-blocks_right.true)
+    (made_clear _ c.fill_from.ensures)
 
 pub word_count-count-requires : goal.word_count-count-requires
 word_count-count-requires c =
-    let sized = c.size_right.ensures.yes c.if-size_right.true in
+    let sized = c.size_right.ensures.yes c.if-not-size_right.false in
     record {
       bytes_nonzero = omega arith;
-      each_block = c.blocks_right.ensures.yes c.if-blocks_right.true;
+      each_block = c.blocks_right.ensures.yes c.if-not-blocks_right.false;
     }
 
 pub returns-then-words-count : goal.returns-then-words-count
-returns-then-words-count c = refuses_room _ _ (right (c.size_right.ensures.yes c.if-size_right.true) (c.checks_right.ensures.yes c.if-checks_right.true) (c.blocks_right.ensures.yes c.if-blocks_right.true)) (omega arith) (made_clear _ c.clear_words.ensures)
+returns-then-words-count c = refuses_room _ _ (right (c.size_right.ensures.yes c.if-not-size_right.false) (c.checks_right.ensures.yes c.if-not-checks_right.false) (c.blocks_right.ensures.yes c.if-not-blocks_right.false)) (omega arith) (made_clear _ c.fill_from.ensures)
 
 pub copy_blocks-requires : goal.copy_blocks-requires
 copy_blocks-requires c = record {
-  each_block = c.blocks_right.ensures.yes c.if-blocks_right.true;
+  each_block = c.blocks_right.ensures.yes c.if-not-blocks_right.false;
   bytes_in_bounds = omega (arith, c.word_count-count.ensures);
 }
 
 pub returns : goal.returns
 returns c =
     reads_words _ _
-    (right (c.size_right.ensures.yes c.if-size_right.true) (c.checks_right.ensures.yes c.if-checks_right.true) (c.blocks_right.ensures.yes c.if-blocks_right.true))
+    (right (c.size_right.ensures.yes c.if-not-size_right.false) (c.checks_right.ensures.yes c.if-not-checks_right.false) (c.blocks_right.ensures.yes c.if-not-blocks_right.false))
     c.word_count-count.ensures
     c.if-words-count.false
-    (made_clear _ c.clear_words.ensures)
+    (made_clear _ c.fill_from.ensures)
     c.copy_blocks.ensures

@@ -6,6 +6,5 @@ use Rattle.file.proofs.unused_zero.Goals as goal
 
 pub returns : goal.returns
 returns c =
-    let k : ℕ = c.args.k in
     let used : ℕ = c.args.used in
-    part_tells c.args.bytes.now k used (512 * k + 510 - (512 * k + 4 + 2 * used)) (omega arith) (omega arith) c.all_zero.ensures
+    part_tells c.args.block.now 0 used (510 - (4 + 2 * used)) (omega arith) (omega arith) c.all_zero.ensures

@@ -6,11 +6,11 @@ use Rattle.follows.specs.Begun.{begin_begins, begun_closed}
 use Rattle.follows.proofs.follows.Goals as goal
 
 pub begin-list-requires : goal.begin-list-requires
-begin-list-requires c =
-    let begun = follows_begin c.requires.blank c.with.ensures c.add_to.ensures in record {
-      needed = record { asked = c.requires.needed.asked; exact = c.requires.needed.exact; reached = c.requires.needed.reached; size = begun.size };
-      begun = begin_begins (blank_made 64) begun;
-    }
+begin-list-requires c = record {
+  reached = c.requires.reached;
+  begun = begin_begins (blank_made 64) (follows_begin c.requires.blank c.with.ensures c.add_to.ensures);
+}
 
 pub returns : goal.returns
-returns c = begun_closed c.requires.needed c.begin-list.ensures c.close.ensures
+returns c =
+    begun_closed c.begin-list.ensures.exact.asked c.begin-list.ensures.exact.exact c.begin-list.ensures.fed c.close.ensures

@@ -1,5 +1,4 @@
 -- `marks::add` meets its contract: a delete adds nothing, an insert its string.
-use native.Mathlib.Omega.{arith}
 use Rattle.marks.proofs.Walking.{add_none, add_can, add_string}
 use Rattle.marks.proofs.add.Goals as goal
 

@@ -10,10 +10,7 @@ pub returns-then-kind-eq-DELETE : goal.returns-then-kind-eq-DELETE
 returns-then-kind-eq-DELETE c = sym (added_delete _ _ c.if-kind-eq-DELETE.true)
 
 pub length_of-requires : goal.length_of-requires
-length_of-requires c = record {
-  lengths_len = c.requires.size;
-  symbol_bound = omega (arith, c.wide.ensures.value, (c.requires.names c.if-kind-eq-DELETE.false).1);
-}
+length_of-requires c = omega (arith, c.from.ensures, (c.requires c.if-kind-eq-DELETE.false).1)
 
 pub returns : goal.returns
-returns c = c.length_of.ensures ∙ (ap (length_in _) c.wide.ensures.value ∙ sym (added_insert _ _ c.if-kind-eq-DELETE.false))
+returns c = c.length_of.ensures ∙ (ap (length_in _) c.from.ensures ∙ sym (added_insert _ _ c.if-kind-eq-DELETE.false))

@@ -1,5 +1,4 @@
 -- `marks::behind` meets its contract, by the kind of the record.
-use native.Mathlib.Omega.{arith}
 use Rattle.marks.specs.Restoring.{behind_delete, behind_insert}
 use mathlib.Core.Path.{sym}
 use Rattle.marks.proofs.behind.Goals as goal

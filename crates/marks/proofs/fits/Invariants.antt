@@ -1,14 +1,9 @@
-use Rattle.marks.specs.Restoring.{behind_by}
-use Rattle.base.specs.Telling.{tells_le}
-use native.Mathlib.Omega.{arith}
-use Rattle.marks.proofs.Sizing.{Sizing, size_begins, size_next, size_over, size_goes, size_passed, size_ends, added_small}
-use Prim.Native.Nat.{◌-◌}
-use mathlib.Core.Path.{ap, ◌∙◌}
-use native.Mathlib.Omega.{arith}
+use Rattle.std.specs.Slice.Iter.{chunks_exact_rest, chunks_exact_size}
+use Rattle.std.proofs.Common.{◌≡◌}
+use Rattle.marks.proofs.Sizing.{Sizing}
 use Rattle.marks.proofs.fits.Given as goal
 
-abbrev pub invariant-loop-i : goal.invariant-loop-i
-invariant-loop-i l = Sizing l.edits l.records l.lengths l.tokens l.room l.left l.place l.i
-
-abbrev pub decreases-loop-i : goal.decreases-loop-i
-decreases-loop-i l = l.records - l.i
+abbrev pub invariant-loop-record : goal.invariant-loop-record
+invariant-loop-record l =
+    (chunks_exact_size l.record-iterator ≡ 3)
+    × Sizing l.records l.strings.lengths l.tokens l.room l.left l.place (chunks_exact_rest l.record-iterator)

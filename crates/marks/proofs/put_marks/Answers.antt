@@ -1,8 +1,6 @@
 -- `marks::put_marks` meets its contract: from the records of the run to the words of its marks.
-use native.Mathlib.Omega.{arith}
 use Rattle.marks.proofs.Putting.{put_log, put_can_measure, put_can_size, put_can_restore, put_short, put_whole}
 use mathlib.Core.Path.{refl}
-use native.Mathlib.Omega.{arith}
 use Rattle.marks.proofs.put_marks.Goals as goal
 
 pub returns-then-records-eq0 : goal.returns-then-records-eq0
@@ -14,21 +12,21 @@ nonterminal_count-depth-requires c = c.requires.accepted.shaped
 pub gather-requires : goal.gather-requires
 gather-requires c = record { shaped = c.requires.accepted.shaped; cheap = c.requires.cheap; size = refl }
 
-pub lengths-requires : goal.lengths-requires
-lengths-requires c = put_can_measure c.requires c.gather.ensures c.nonterminal_count-depth.ensures
+pub new-strings-requires : goal.new-strings-requires
+new-strings-requires c = put_can_measure c.requires c.gather.ensures c.nonterminal_count-depth.ensures
 
 pub fits-requires : goal.fits-requires
-fits-requires c = put_can_size c.requires c.gather.ensures c.nonterminal_count-depth.ensures c.lengths.ensures
+fits-requires c = put_can_size c.requires c.gather.ensures c.nonterminal_count-depth.ensures c.new-strings.ensures.rights c.new-strings.ensures.depth c.new-strings.ensures.ready
 
-pub returns-else-fits : goal.returns-else-fits
-returns-else-fits c =
-    put_short c.requires c.gather.ensures c.nonterminal_count-depth.ensures c.lengths.ensures c.fits.ensures refl
-    c.if-fits.false
+pub returns-then-not-fits : goal.returns-then-not-fits
+returns-then-not-fits c =
+    put_short c.requires c.gather.ensures c.nonterminal_count-depth.ensures c.new-strings.ensures.rights c.new-strings.ensures.depth c.new-strings.ensures.ready c.fits.ensures refl
+    c.if-not-fits.true
 
 pub restore-requires : goal.restore-requires
-restore-requires c = put_can_restore c.requires c.gather.ensures c.nonterminal_count-depth.ensures c.lengths.ensures c.fits.ensures refl c.if-fits.true
+restore-requires c = put_can_restore c.requires c.gather.ensures c.nonterminal_count-depth.ensures c.new-strings.ensures.rights c.new-strings.ensures.depth c.new-strings.ensures.ready c.fits.ensures refl c.if-not-fits.false
 
 pub returns : goal.returns
 returns c =
-    put_whole c.requires c.gather.ensures c.nonterminal_count-depth.ensures c.lengths.ensures c.fits.ensures refl c.if-fits.true
+    put_whole c.requires c.gather.ensures c.nonterminal_count-depth.ensures c.new-strings.ensures.rights c.new-strings.ensures.depth c.new-strings.ensures.ready c.fits.ensures refl c.if-not-fits.false
     c.restore.ensures

@@ -1,69 +1,73 @@
 -- `marks::restore` meets its contract: what is written and what the records still to come make is the whole result.
-use native.Mathlib.Omega.{arith}
+use Rattle.std.specs.Slice.Iter.{chunks_exact_rest}
+use Rattle.std.proofs.Common.{◌≡◌, ◌≤◌, ◌-◌, length, take, drop, rules, ap, subst, ◌∙◌, arith}
+use Rattle.marks.specs.Marking.{Copied}
 use Rattle.marks.specs.Restoring.{behind_by}
-use Rattle.marks.proofs.Walking.{Walking, walk_begins, walk_length, walk_can_copy, walk_can_write, walk_goes, walk_can_end, walk_ends}
-use Prim.Native.Nat.{◌-◌}
-use mathlib.Core.Path.{ap, ◌∙◌}
-use native.Mathlib.Omega.{arith}
+use Rattle.marks.proofs.Walking.{walk_begins, walk_next, walk_can_copy, walk_can_add, walk_goes, walk_can_end, walk_ends, kept_rest}
 use Rattle.marks.proofs.restore.Goals as goal
 
-pub loop-i-init : goal.loop-i-init
-loop-i-init c = walk_begins c.requires
+pub loop-record-init : goal.loop-record-init
+loop-record-init c =
+    let whole : chunks_exact_rest c.into_iter-record-iterator.result ≡ c.args.records.now = search rules in
+    (search rules, rw whole (walk_begins c.requires))
 
-pub overflow_mul-kind : goal.overflow_mul-kind
-overflow_mul-kind c = omega (arith, c.requires.words, c.loop-i-test.true, c.well_formed)
+pub offset_bounds-kept-place : goal.offset_bounds-kept-place
+offset_bounds-kept-place c =
+    let step = c.in-Some.ensures.steps.1 in
+    let next = walk_next c.requires c.loop-record.invariant.1 _ _ step.0 (step.1 ∙ c.loop-record.invariant.0) in
+    omega (arith, next.rises, next.within, c.well_formed)
 
-pub offset_bounds-edits-i : goal.offset_bounds-edits-i
-offset_bounds-edits-i c = omega (arith, c.requires.words, c.loop-i-test.true, c.well_formed)
+pub slice_bounds-copy-count : goal.slice_bounds-copy-count
+slice_bounds-copy-count c =
+    let step = c.in-Some.ensures.steps.1 in
+    let next = walk_next c.requires c.loop-record.invariant.1 _ _ step.0 (step.1 ∙ c.loop-record.invariant.0) in
+    omega (arith, next.rises, c.from-at.ensures)
 
-pub bounds-edits-i : goal.bounds-edits-i
-bounds-edits-i c = omega (arith, c.requires.words, c.loop-i-test.true)
+pub slice_bounds-copy-start : goal.slice_bounds-copy-start
+slice_bounds-copy-start c =
+    let step = c.in-Some.ensures.steps.1 in
+    let next = walk_next c.requires c.loop-record.invariant.1 _ _ step.0 (step.1 ∙ c.loop-record.invariant.0) in
+    let low : c.loop-record.place ≤ c.from-at.result = omega (arith, next.rises, c.from-at.ensures) in low
 
-pub overflow_mul-i : goal.overflow_mul-i
-overflow_mul-i c = omega (arith, c.requires.words, c.loop-i-test.true, c.well_formed)
-
-pub overflow_add-i : goal.overflow_add-i
-overflow_add-i c = omega (arith, c.requires.words, c.loop-i-test.true, c.well_formed)
-
-pub offset_bounds-edits-i-in-loop-i : goal.offset_bounds-edits-i-in-loop-i
-offset_bounds-edits-i-in-loop-i c = omega (arith, c.requires.words, c.loop-i-test.true, c.well_formed)
-
-pub bounds-edits-i-in-loop-i : goal.bounds-edits-i-in-loop-i
-bounds-edits-i-in-loop-i c = omega (arith, c.requires.words, c.loop-i-test.true)
+pub slice_bounds-copy-end : goal.slice_bounds-copy-end
+slice_bounds-copy-end c =
+    let step = c.in-Some.ensures.steps.1 in
+    let next = walk_next c.requires c.loop-record.invariant.1 _ _ step.0 (step.1 ∙ c.loop-record.invariant.0) in
+    let high : c.from-at.result ≤ length c.args.kept.now = omega (arith, next.within, c.from-at.ensures) in high
 
 pub copy-next-requires : goal.copy-next-requires
-copy-next-requires c = walk_can_copy c.requires c.loop-i.invariant c.loop-i-test.true c.wide-at.ensures.value
-
-pub overflow_mul-i-in-loop-i : goal.overflow_mul-i-in-loop-i
-overflow_mul-i-in-loop-i c = omega (arith, c.requires.words, c.loop-i-test.true, c.well_formed)
-
-pub overflow_add-i-in-loop-i : goal.overflow_add-i-in-loop-i
-overflow_add-i-in-loop-i c = omega (arith, c.requires.words, c.loop-i-test.true, c.well_formed)
-
-pub offset_bounds-edits-i-in-loop-i-2 : goal.offset_bounds-edits-i-in-loop-i-2
-offset_bounds-edits-i-in-loop-i-2 c = omega (arith, c.requires.words, c.loop-i-test.true, c.well_formed)
-
-pub bounds-edits-i-in-loop-i-2 : goal.bounds-edits-i-in-loop-i-2
-bounds-edits-i-in-loop-i-2 c = omega (arith, c.requires.words, c.loop-i-test.true)
+copy-next-requires c =
+    let step = c.in-Some.ensures.steps.1 in
+    rw c.from-at.ensures
+    (walk_can_copy c.requires c.loop-record.invariant.1 _ _ step.0 (step.1 ∙ c.loop-record.invariant.0))
 
 pub add-end-requires : goal.add-end-requires
 add-end-requires c =
-    walk_can_write c.requires c.loop-i.invariant c.loop-i-test.true c.wide-at.ensures.value c.copy-next.ensures c.requires.spells
-    c.requires.measured c.copy-next.auto.tokens
+    let step = c.in-Some.ensures.steps.1 in
+    let place = c.loop-record.place in
+    let copied =
+    subst (λ n. Copied (take (n - place) (drop place c.args.kept.now)) c.loop-record.tokens c.loop-record.end c.copy-next.new.tokens c.copy-next.result)
+    c.from-at.ensures c.copy-next.ensures in
+    walk_can_add c.requires c.loop-record.invariant.1 _ _ step.0 (step.1 ∙ c.loop-record.invariant.0) copied c.copy-next.auto.tokens
 
-pub behind-place-requires : goal.behind-place-requires
-behind-place-requires c = c.wide-at.ensures.upper_bound
-
-pub loop-i-preserved : goal.loop-i-preserved
-loop-i-preserved c =
-    walk_goes c.requires c.loop-i.invariant c.loop-i-test.true c.wide-at.ensures.value c.copy-next.ensures c.add-end.ensures (c.behind-place.ensures ∙ ap
-    (behind_by _) c.wide-at.ensures.value)
+pub loop-record-preserved : goal.loop-record-preserved
+loop-record-preserved c =
+    let step = c.in-Some.ensures.steps.1 in
+    let place = c.loop-record.place in
+    let copied =
+    subst (λ n. Copied (take (n - place) (drop place c.args.kept.now)) c.loop-record.tokens c.loop-record.end c.copy-next.new.tokens c.copy-next.result)
+    c.from-at.ensures c.copy-next.ensures in (
+      c.in-Some.ensures.steps.0 ∙ c.loop-record.invariant.0,
+      walk_goes c.requires c.loop-record.invariant.1 _ _ step.0 (step.1 ∙ c.loop-record.invariant.0) copied c.add-end.ensures
+          (c.behind-place.ensures ∙ ap (behind_by _) c.from-at.ensures),
+    )
 
 pub copy-requires : goal.copy-requires
-copy-requires c = walk_can_end c.requires c.loop-i.invariant (omega (arith, c.loop-i-test.false))
-
-pub shape_of-tokens : goal.shape_of-tokens
-shape_of-tokens c = c.copy.auto.tokens ∙ walk_length c.requires c.loop-i.invariant
+copy-requires c =
+    walk_can_end c.requires c.loop-record.invariant.1 (omega (arith, c.in-None.ensures.steps.1.0, c.loop-record.invariant.0))
+    (kept_rest c.args.kept.now c.loop-record.place c.min.result c.min.ensures)
 
 pub returns : goal.returns
-returns c = walk_ends c.requires c.loop-i.invariant (omega (arith, c.loop-i-test.false)) c.copy.ensures
+returns c =
+    walk_ends c.requires c.loop-record.invariant.1 (omega (arith, c.in-None.ensures.steps.1.0, c.loop-record.invariant.0))
+    (kept_rest c.args.kept.now c.loop-record.place c.min.result c.min.ensures) c.copy.ensures

@@ -1,13 +1,9 @@
-use Prim.Native.Nat.{◌-◌, ◌≤◌}
 use mathlib.Core.Path.{◌≡◌}
-use lib.ListN.{length}
-use Rattle.grammar.specs.Words.{rule_count}
+use Prim.Native.Nat.{ℕ, ◌<◌, ◌^◌}
+use lib.ListN.{length, get_or}
 use Rattle.mentions.specs.Mentions.{Gathered, Used}
 use Rattle.mentions.proofs.gather.Given as goal
 
 abbrev pub invariant-loop-p : goal.invariant-loop-p
-invariant-loop-p l = (l.p ≤ rule_count l.words) × Gathered l.words l.p l.table × Used l.words l.p l.uses ×
-    (length l.table ≡ length l.initial.table)
-
-abbrev pub decreases-loop-p : goal.decreases-loop-p
-decreases-loop-p l = l.count - l.p
+invariant-loop-p l = Gathered l.rules l.p l.table × Used l.rules l.p l.uses × (length l.table ≡ length l.initial.table)
+    × ((k : ℕ) → get_or l.uses k 0 < 2 ^ 64)

@@ -1,35 +1,27 @@
--- `mentions::mention` meets its contract: rule p is in the rows of its symbols from i on. The measure is i.
+-- `mentions::mention` meets its contract: rule p is in the rows of the symbols in front of the index.
 use native.Mathlib.Omega.{arith}
-use Rattle.mentions.specs.Putting.{mention_begins, mention_goes, mention_ends}
+use Rattle.std.proofs.Common.{take, ◌∙◌}
+use Rattle.std.proofs.lemmas.List.{take_more, take_all}
+use Rattle.mentions.specs.Putting.{mention_begins, mention_goes}
 use Rattle.mentions.proofs.mention.Goals as goal
 
-pub size_of-i-requires : goal.size_of-i-requires
-size_of-i-requires c = record {
-  ready = c.requires.ready;
-  p_bound = c.requires.p_bound;
-}
-
-pub loop-i-init : goal.loop-i-init
-loop-i-init c = mention_begins c.size_of-i.ensures
-
-pub symbol_at-requires : goal.symbol_at-requires
-symbol_at-requires c = record {
-  ready = c.requires.ready;
-  p_bound = c.requires.p_bound;
-  i_in_bounds = omega (arith, c.loop-i.invariant.inside);
-}
+pub loop-x-init : goal.loop-x-init
+loop-x-init c = mention_begins
 
 pub name-named-requires : goal.name-named-requires
 name-named-requires c = record {
-  has_word = omega (arith, c.loop-i.invariant.size, c.requires.p_bound, c.requires.wide);
-  x_bound = c.symbol_at.ensures.small;
+  has_word = omega (arith, c.loop-x.invariant.size, c.requires.p_bound, c.requires.wide);
+  x_bound = c.right_side-symbols.ensures.right.small c.loop-x.x-index (omega arith);
 }
 
-pub loop-i-preserved : goal.loop-i-preserved
-loop-i-preserved c = mention_goes c.loop-i.invariant c.loop-i-test.true c.symbol_at.ensures c.name-named.ensures
+pub loop-x-preserved : goal.loop-x-preserved
+loop-x-preserved c =
+    let xs = c.right_side-symbols.result.now in
+    rw (take_more xs c.loop-x.x-index 0 c.loop-x-test.true) (mention_goes (take c.loop-x.x-index xs) c.loop-x.invariant c.name-named.ensures)
 
 pub shape_of-table : goal.shape_of-table
-shape_of-table c = c.loop-i.invariant.size
+shape_of-table c = c.loop-x.invariant.size
 
 pub returns : goal.returns
-returns c = mention_ends c.loop-i.invariant (omega (arith, c.loop-i-test.false))
+returns c =
+    rw (← (take_all _ _ c.loop-x-test.false ∙ c.right_side-symbols.ensures.right.is)) c.loop-x.invariant

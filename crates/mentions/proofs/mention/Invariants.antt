@@ -1,8 +1,6 @@
+use Rattle.std.proofs.Common.{take}
 use Rattle.mentions.specs.Putting.{Mentioned}
 use Rattle.mentions.proofs.mention.Given as goal
 
-abbrev pub invariant-loop-i : goal.invariant-loop-i
-invariant-loop-i l = Mentioned l.words l.p l.i l.initial.table l.table l.named
-
-abbrev pub decreases-loop-i : goal.decreases-loop-i
-decreases-loop-i l = l.i
+abbrev pub invariant-loop-x : goal.invariant-loop-x
+invariant-loop-x l = Mentioned (take l.x-index l.symbols) l.p l.initial.table l.table l.named

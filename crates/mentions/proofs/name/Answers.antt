@@ -13,4 +13,4 @@ put-requires c = record {
 }
 
 pub returns : goal.returns
-returns c = named_one (omega (arith, c.if-x-lt64.false)) c.put.ensures c.with.ensures
+returns c = named_one (omega (arith, c.if-x-lt64.false)) (rw c.from.ensures at c.put.ensures) c.with.ensures

@@ -9,4 +9,4 @@ returns-then-symbol-lt64 c = rw (lt-ltb _ _ c.if-symbol-lt64.true)
 
 pub returns-else-symbol-lt64 : goal.returns-else-symbol-lt64
 unfolding begins_by
-returns-else-symbol-lt64 c = rw (le-ltb _ _ c.if-symbol-lt64.false, c.has.ensures, c.wide-k.ensures.value)
+returns-else-symbol-lt64 c = rw (le-ltb _ _ c.if-symbol-lt64.false, c.has.ensures, c.from.ensures)

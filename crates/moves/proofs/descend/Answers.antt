@@ -4,7 +4,7 @@ use native.Mathlib.Omega.{arith}
 use Prim.Native.Nat.{◌<◌, ◌-◌}
 use mathlib.Core.Path.{sym, subst}
 use Rattle.moves.specs.Tests.{told_of}
-use Rattle.moves.specs.Ways.{Going, going_sees, going_counts, going_none, going_more, ends_fits, ends_grows, ends_stuck, ends_bottom}
+use Rattle.moves.specs.Ways.{going_sees, going_counts, going_none, going_more, ends_fits, ends_grows, ends_stuck, ends_bottom}
 use Rattle.moves.proofs.descend.Goals as goal
 
 pub loop-d-init : goal.loop-d-init

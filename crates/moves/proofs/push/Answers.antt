@@ -1,7 +1,6 @@
 -- `moves::push` meets its contract: the first i words are copied. The measure is what is left of the eight.
 use native.Mathlib.Omega.{arith}
-use Prim.Native.Nat.{◌≤◌, ◌-◌}
-use Rattle.moves.specs.Push.{Pushing, pushing_none, pushing_more, pushed}
+use Rattle.moves.specs.Push.{pushing_none, pushing_more, pushed}
 use Rattle.moves.proofs.push.Goals as goal
 
 pub loop-i-init : goal.loop-i-init

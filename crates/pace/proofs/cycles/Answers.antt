@@ -12,12 +12,6 @@ loop-place-init c = (c.marks_of-marks.ensures, watching_start c.requires)
 pub here_at-here-requires : goal.here_at-here-requires
 here_at-here-requires c = c.loop-place.invariant.1.cursor
 
-pub offset_bounds-log-place : goal.offset_bounds-log-place
-offset_bounds-log-place c = omega (arith, c.loop-place-test.true, c.loop-place.invariant.1.lent.tokens)
-
-pub bounds-log-place : goal.bounds-log-place
-bounds-log-place c = c.loop-place-test.true
-
 pub offset_bounds-ticks-place : goal.offset_bounds-ticks-place
 offset_bounds-ticks-place c = omega (arith, c.loop-place-test.true, c.loop-place.invariant.1.lent.tokens)
 
@@ -26,12 +20,6 @@ bounds-ticks-place c = omega (arith, c.loop-place-test.true, c.loop-place.invari
 
 pub passed-watch-requires : goal.passed-watch-requires
 passed-watch-requires c = watching_small c.loop-place.invariant.1
-
-pub overflow_add-place : goal.overflow_add-place
-overflow_add-place c = omega (arith, c.loop-place-test.true, c.loop-place.invariant.1.lent.tokens)
-
-pub loop-place-smaller : goal.loop-place-smaller
-loop-place-smaller c = omega (arith, c.loop-place-test.true)
 
 pub loop-place-preserved : goal.loop-place-preserved
 loop-place-preserved c = (c.loop-place.invariant.0, watching_next c.loop-place.invariant.1 c.loop-place.invariant.0 c.loop-place-test.true c.here_at-here.ensures c.passed-watch.ensures)

@@ -1,47 +1,28 @@
+-- `parser::log_fits` meets its contract: the least and the largest token so far span the tokens that came.
 use native.Mathlib.Omega.{arith}
-use Prim.Native.Nat.{◌-◌, ◌≤◌}
-use lib.ListN.{length}
-use Rattle.base.specs.Telling.{denied}
-use Rattle.parser.specs.Parses.{Spanned, spanned_none, spanned_more, log_low, log_high}
-use mathlib.Core.Path.{sym, ◌∙◌}
-use mathlib.Core.Bool.{true≢false}
 use borrow.Author.Tests.{ltb-true, ltb-false}
+use Rattle.parser.specs.Parses.{spanned_none, spanned_more, log_high}
+use Rattle.std.specs.Prelude.{min, max, get_or}
+use Rattle.std.proofs.Common.{rules, ◌≡◌}
 use Rattle.parser.proofs.log_fits.Goals as goal
 
-pub returns-else-asked : goal.returns-else-asked
-returns-else-asked c = denied (λ f. true≢false (sym f.1 ∙ c.if-asked.false))
+pub loop-t-init : goal.loop-t-init
+loop-t-init c = spanned_none
 
-pub returns-then-log-gt4096 : goal.returns-then-log-gt4096
-returns-then-log-gt4096 c = denied (λ f. omega (arith, f.0.count, c.if-log-gt4096.true))
-
-pub loop-i-init : goal.loop-i-init
-loop-i-init c = (omega arith, spanned_none)
-
-pub loop-i-preserved : goal.loop-i-preserved
-loop-i-preserved c = (omega (arith, c.loop-i-test.true), spanned_more _ _ _ _ _ c.lesser-low.ensures c.greater-high.ensures c.loop-i.invariant.1)
-
-pub returns-then-low-eq0 : goal.returns-then-low-eq0
-returns-then-low-eq0 c = log_low c.loop-i.invariant.1 c.loop-i-test.false c.loop-i.invariant.0 c.if-low-eq0.true
+pub loop-t-preserved : goal.loop-t-preserved
+loop-t-preserved c =
+    let low : c.min-low.result ≡ min c.loop-t.low (get_or c.args.log.now c.loop-t.t-index 0) = search rules in
+    let high : c.max-high.result ≡ max c.loop-t.high (get_or c.args.log.now c.loop-t.t-index 0) = search rules in
+    spanned_more _ _ _ _ _ low high c.loop-t.invariant
 
 pub terminal_count-requires : goal.terminal_count-requires
 terminal_count-requires c = c.requires
 
-pub returns : goal.returns
-returns c =
-    log_high c.loop-i.invariant.1 c.loop-i-test.false c.loop-i.invariant.0 _ c.requires.terminals_low c.if-log-gt4096.false c.if-low-eq0.false
-    c.if-asked.true
+pub returns-then-low-gt0 : goal.returns-then-low-gt0
+returns-then-low-gt0 c =
+    log_high c.loop-t.invariant (omega arith) (omega arith) _ c.requires.terminals_low c.if-log-gt4096.false c.if-low-gt0.true
+    c.if-not-asked.false
     (record {
-      yes = λ e. omega (
-        arith,
-        ltb-true c.wide.result c.terminal_count.result e,
-        c.wide.ensures.value,
-        c.terminal_count.ensures,
-      );
-      no = λ e h. omega (
-        arith,
-        ltb-false c.wide.result c.terminal_count.result e,
-        h,
-        c.wide.ensures.value,
-        c.terminal_count.ensures,
-      );
+      yes = λ e. omega (arith, ltb-true c.from.result c.terminal_count.result e, c.from.ensures, c.terminal_count.ensures);
+      no = λ e h. omega (arith, ltb-false c.from.result c.terminal_count.result e, h, c.from.ensures, c.terminal_count.ensures);
     })

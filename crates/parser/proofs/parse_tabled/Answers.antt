@@ -1,7 +1,7 @@
 -- `parser::parse_tabled` meets its contract: the buffers are cleared behind what the run left, or whole.
 use native.Mathlib.Omega.{arith}
 use Rattle.parser.specs.Asking.{asks_by}
-use Rattle.parser.specs.Parses.{settled_fits, parses_counts, parses_refused, cheap_told}
+use Rattle.parser.specs.Parses.{settled_fits, parses_counts, parses_refused}
 use Rattle.std.proofs.Common.{rules}
 use Rattle.parser.proofs.parse_tabled.Goals as goal
 
@@ -9,25 +9,19 @@ pub overflow_mul-counts : goal.overflow_mul-counts
 overflow_mul-counts c =
     omega (
       arith,
-      (settled_fits (asks_by c.args.asking) _ _ c.args.edits.now c.args.rules.now c.settle-answer.new.edits
-          c.settle-answer.new.rules c.settle-answer.ensures.settled_as c.in-Parsed.is).0,
+      (settled_fits (asks_by c.args.asking) _ _ c.args.edits.now c.args.rules.now c.settle.new.edits
+          c.settle.new.rules c.settle.ensures.settled_as c.in-Ok.is).0,
       c.well_formed,
     )
 
-pub returns-in-Parsed : goal.returns-in-Parsed
-returns-in-Parsed c = record {
-  parsed_asking = parses_counts (asks_by c.args.asking) _ _ c.args.edits.now c.args.rules.now c.settle-answer.new.edits
-      c.settle-answer.new.rules c.settle-answer.ensures.settled_as c.settle-answer.auto.edits c.settle-answer.auto.rules _ _
-      c.in-Parsed.is
-      c.clear_words.ensures c.clear_words-in-Parsed.ensures;
-  cheap_where = cheap_told _ _ _ c.settle-answer.ensures.cheap_where c.in-Parsed.is;
-}
+pub returns-in-Ok-clause-parsed_asking : goal.returns-in-Ok-clause-parsed_asking
+returns-in-Ok-clause-parsed_asking c =
+    parses_counts (asks_by c.args.asking) _ _ c.args.edits.now c.args.rules.now c.settle.new.edits
+    c.settle.new.rules c.settle.ensures.settled_as c.settle.auto.edits c.settle.auto.rules _ _
+    c.in-Ok.is c.fill_from.ensures c.fill_from-in-Ok.ensures
 
-pub returns-in-Refused : goal.returns-in-Refused
-returns-in-Refused c = record {
-  parsed_asking = parses_refused (asks_by c.args.asking) _ _ c.args.edits.now c.args.rules.now c.settle-answer.new.edits
-      c.settle-answer.new.rules c.settle-answer.ensures.settled_as c.settle-answer.auto.edits c.settle-answer.auto.rules _ _
-      c.in-Refused.is
-      c.clear_words-in-Refused.ensures c.clear_words-in-Refused-2.ensures;
-  cheap_where = cheap_told _ _ _ c.settle-answer.ensures.cheap_where c.in-Refused.is;
-}
+pub returns-in-Err-clause-parsed_asking : goal.returns-in-Err-clause-parsed_asking
+returns-in-Err-clause-parsed_asking c =
+    parses_refused (asks_by c.args.asking) _ _ c.args.edits.now c.args.rules.now c.settle.new.edits
+    c.settle.new.rules c.settle.ensures.settled_as c.settle.auto.edits c.settle.auto.rules _ _
+    c.in-Err.is (search rules) (search rules)

@@ -1,9 +1,6 @@
-use Prim.Native.Nat.{ℕ, ◌+◌, ◌-◌, ◌<◌}
-use Rattle.grammar.specs.Words.{word, RuleSymbol}
+use Rattle.std.proofs.Common.{ℕ, ◌<◌, get_or}
+use Rattle.grammar.specs.Words.{RuleSymbol}
 use Rattle.shape.proofs.symbols_right.Given as goal
 
-abbrev pub invariant-loop-i : goal.invariant-loop-i
-invariant-loop-i l = (j : ℕ) → j < l.i → RuleSymbol l.t l.n (word l.words (l.from + j))
-
-abbrev pub decreases-loop-i : goal.decreases-loop-i
-decreases-loop-i l = l.size - l.i
+abbrev pub invariant-loop-x : goal.invariant-loop-x
+invariant-loop-x l = (j : ℕ) → j < l.x-index → RuleSymbol l.t l.n (get_or l.symbols j 0)

@@ -4,14 +4,14 @@ use Rattle.spelling.specs.Steps.{finished_as, ends_between, ends_within, ends_st
 use Rattle.spelling.proofs.finish.Goals as goal
 
 pub returns-in-Between : goal.returns-in-Between
-returns-in-Between c = finished_as c.in-Between.is (ends_between _ (omega arith) c.clear_words.ensures)
+returns-in-Between c = finished_as c.in-Between.is (ends_between _ (omega arith) c.fill_from.ensures)
 
 pub returns-in-Within : goal.returns-in-Within
 returns-in-Within c =
     finished_as c.in-Within.is
-    (ends_within _ (omega arith) c.store.ensures c.one_more-all.ensures c.clear_words-in-Within.ensures)
+    (ends_within _ (omega arith) c.store.ensures c.saturating_add-all.ensures c.fill_from-in-Within.ensures)
 
 pub returns-in-Stopped : goal.returns-in-Stopped
 returns-in-Stopped c =
     finished_as c.in-Stopped.is
-    (ends_stopped _ (omega arith) c.one_more.ensures c.clear_words-in-Stopped.ensures)
+    (ends_stopped _ (omega arith) c.saturating_add.ensures c.fill_from-in-Stopped.ensures)

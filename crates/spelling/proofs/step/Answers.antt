@@ -9,7 +9,7 @@ returns-then-blank c = took_as c.in-Between.is (blank_between _ (c.blank.ensures
 pub returns-then-blank-2 : goal.returns-then-blank-2
 returns-then-blank-2 c =
     let ends = c.blank-in-Within.ensures.yes c.if-blank-2.true in
-    took_as c.in-Within.is (blank_within _ (omega arith) ends c.store.ensures c.one_more.ensures)
+    took_as c.in-Within.is (blank_within _ (omega arith) ends c.store.ensures c.saturating_add.ensures)
 
 pub returns-else-blank : goal.returns-else-blank
 returns-else-blank c =

@@ -1,10 +1,8 @@
 -- `strings::gather` meets its contract: k entries are taken from the parser's tables. The measure is what is left.
-use Rattle.strings.specs.Gathering.{Gathered, rule_small}
+use Rattle.strings.specs.Gathering.{rule_small}
 use mathlib.Core.Path.{refl}
 use native.Mathlib.Omega.{arith}
-use Rattle.strings.specs.Gathering.{Gathered}
 use Rattle.strings.proofs.Filling.{gather_begins, gather_goes, gather_ends}
-use Prim.Native.Nat.{◌+◌, ◌-◌, ◌≤◌}
 use native.Mathlib.Omega.{arith}
 use mathlib.Core.Path.{refl}
 use Rattle.strings.proofs.gather.Goals as goal

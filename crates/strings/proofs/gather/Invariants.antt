@@ -1,11 +1,6 @@
-use Rattle.strings.specs.Gathering.{Gathered, rule_small}
-use mathlib.Core.Path.{refl}
-use native.Mathlib.Omega.{arith}
 use Rattle.strings.specs.Gathering.{Gathered}
-use Rattle.strings.proofs.Filling.{gather_begins, gather_goes, gather_ends}
-use Prim.Native.Nat.{◌+◌, ◌-◌, ◌≤◌}
-use native.Mathlib.Omega.{arith}
-use mathlib.Core.Path.{refl}
+use Rattle.strings.specs.Gathering.{Gathered}
+use Prim.Native.Nat.{◌-◌, ◌≤◌}
 use Rattle.strings.proofs.gather.Given as goal
 
 abbrev pub invariant-loop-k : goal.invariant-loop-k

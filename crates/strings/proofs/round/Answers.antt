@@ -1,38 +1,33 @@
--- `strings::round` meets its contract: k entries are the sums over their right sides. The measure is what is left.
-use native.Mathlib.Omega.{arith}
-use Rattle.strings.specs.Lengths.{Rounded}
+-- `strings::round` meets its contract: k entries are the sums over their right sides.
+use Rattle.std.proofs.Common.{◌∙◌, ap, arith, length-take-le, get_or-take}
+use Rattle.grammar.specs.Theory.Closed.{total}
+use Rattle.strings.specs.Spelling.{length_in, members}
 use Rattle.strings.proofs.Filling.{round_begins, round_goes, round_ends}
-use Prim.Native.Nat.{◌-◌, ◌≤◌}
-use native.Mathlib.Omega.{arith}
 use Rattle.strings.proofs.round.Goals as goal
 
 pub loop-k-init : goal.loop-k-init
-loop-k-init c = (omega arith, round_begins)
-
-pub offset_bounds-table-k : goal.offset_bounds-table-k
-offset_bounds-table-k c = omega (arith, c.loop-k.invariant.0, c.requires.few)
-
-pub bounds-table-k : goal.bounds-table-k
-bounds-table-k c = omega (arith, c.requires.few, c.requires.table_size, c.loop-k-test.true)
+loop-k-init c = round_begins
 
 pub sum_of-requires : goal.sum_of-requires
-sum_of-requires c = c.requires.sums c.loop-k.k (omega (arith, c.requires.few, c.loop-k-test.true))
-
-pub offset_bounds-next-k : goal.offset_bounds-next-k
-offset_bounds-next-k c = omega (arith, c.loop-k.invariant.0, c.requires.few)
+sum_of-requires c =
+    let size = length-take-le c.args.count c.args.table.now (omega (arith, c.requires.few, c.requires.table_size)) in
+    rw (get_or-take c.args.count c.args.table.now c.loop-k.k 0 (omega (arith, size, c.loop-k-test.true)))
+    (c.requires.sums c.loop-k.k (omega (arith, size, c.requires.few, c.loop-k-test.true)))
 
 pub bounds-next-k : goal.bounds-next-k
-bounds-next-k c = omega (arith, c.loop-k.invariant.1.size, c.requires.next_size, c.requires.few, c.loop-k-test.true)
+bounds-next-k c =
+    let size = length-take-le c.args.count c.args.table.now (omega (arith, c.requires.few, c.requires.table_size)) in
+    omega (arith, size, c.loop-k.auto.next, c.requires.next_size, c.requires.few, c.loop-k-test.true)
 
 pub loop-k-preserved : goal.loop-k-preserved
-loop-k-preserved c = (
-  omega (arith, c.loop-k-test.true),
-  round_goes (omega (arith, c.loop-k.invariant.1.size, c.requires.next_size, c.requires.few, c.loop-k-test.true))
-      c.loop-k.invariant.1 c.sum_of.ensures,
-)
-
-pub shape_of-next : goal.shape_of-next
-shape_of-next c = c.loop-k.invariant.1.size
+loop-k-preserved c =
+    let size = length-take-le c.args.count c.args.table.now (omega (arith, c.requires.few, c.requires.table_size)) in
+    round_goes (omega (arith, size, c.loop-k.auto.next, c.requires.next_size, c.requires.few, c.loop-k-test.true)) c.loop-k.invariant
+    (c.sum_of.ensures
+    ∙ ap (λ w. total (length_in c.args.lengths.now) (members w))
+    (get_or-take c.args.count c.args.table.now c.loop-k.k 0 (omega (arith, size, c.loop-k-test.true))))
 
 pub returns : goal.returns
-returns c = round_ends (omega (arith, c.loop-k.invariant.0, c.loop-k-test.false)) c.loop-k.invariant.1
+returns c =
+    let size = length-take-le c.args.count c.args.table.now (omega (arith, c.requires.few, c.requires.table_size)) in
+    round_ends (omega (arith, size, c.loop-k-test.false, c.loop-k.auto.k-end)) c.loop-k.invariant

@@ -1,6 +1,5 @@
 -- `strings::spell` meets its contract: what is written and what is still to be spelled make the string. The measure is the steps left.
 use native.Mathlib.Omega.{arith}
-use Rattle.strings.specs.Work.{Spelling, steps_left}
 use Rattle.strings.specs.Turns.{
   spelling_begins,
   spelling_ends,
@@ -14,14 +13,18 @@ use Rattle.strings.specs.Turns.{
   steps_more_less,
   steps_down_less,
 }
-use Prim.Native.Nat.{◌+◌, ◌-◌, ◌/◌, ◌%◌, ◌≤◌}
-use mathlib.Core.Path.{◌≡◌, refl, ◌∙◌, ap}
-use lib.ListN.{length, length-set}
+use Prim.Native.Nat.{◌+◌, ◌%◌}
+use mathlib.Core.Path.{refl, ◌∙◌}
+use lib.ListN.{length-set}
 use native.Mathlib.Omega.{arith}
 use Rattle.strings.proofs.spell.Goals as goal
 
 pub loop-left-init : goal.loop-left-init
-loop-left-init c = (refl, spelling_begins _ _ _ _ _ _ _ refl c.requires.low (omega (arith, c.requires.high)) c.requires.deep (omega (arith, c.requires.room)))
+loop-left-init c = (
+  refl,
+  rw c.from-left.ensures
+      (spelling_begins _ _ _ _ _ _ _ refl c.requires.low (omega (arith, c.requires.high)) c.requires.deep (omega (arith, c.requires.room))),
+)
 
 pub shape_of-tokens-then-h-eq0 : goal.shape_of-tokens-then-h-eq0
 shape_of-tokens-then-h-eq0 c = c.loop-left.invariant.0

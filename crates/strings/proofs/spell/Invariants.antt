@@ -1,22 +1,6 @@
-use native.Mathlib.Omega.{arith}
 use Rattle.strings.specs.Work.{Spelling, steps_left}
-use Rattle.strings.specs.Turns.{
-  spelling_begins,
-  spelling_ends,
-  spelling_up,
-  spelling_token,
-  spelling_room,
-  spelling_pass,
-  spelling_high,
-  spelling_down,
-  steps_up_less,
-  steps_more_less,
-  steps_down_less,
-}
-use Prim.Native.Nat.{◌+◌, ◌-◌, ◌/◌, ◌%◌, ◌≤◌}
-use mathlib.Core.Path.{◌≡◌, refl, ◌∙◌, ap}
-use lib.ListN.{length, length-set}
-use native.Mathlib.Omega.{arith}
+use mathlib.Core.Path.{◌≡◌}
+use lib.ListN.{length}
 use Rattle.strings.proofs.spell.Given as goal
 
 abbrev pub invariant-loop-left : goal.invariant-loop-left

@@ -1,9 +1,8 @@
 -- `strings::sum_of` meets its contract: the sum so far and that over what is left of the right side make the whole. The measure is the word.
-use Rattle.strings.proofs.Filling.{Summed, sum_begins, sum_inside, sum_small, sum_goes, sum_ends}
+use Rattle.strings.proofs.Filling.{sum_begins, sum_inside, sum_small, sum_goes, sum_ends}
 use native.Mathlib.Omega.{arith}
-use Rattle.strings.proofs.Filling.{Summed, sum_begins, sum_goes}
+use Rattle.strings.proofs.Filling.{sum_begins, sum_goes}
 use native.Mathlib.Omega.{arith}
-use mathlib.Core.Path.{refl}
 use Rattle.strings.proofs.sum_of.Goals as goal
 
 pub loop-left-init : goal.loop-left-init

@@ -1,8 +1,5 @@
-use Rattle.strings.proofs.Filling.{Summed, sum_begins, sum_inside, sum_small, sum_goes, sum_ends}
-use native.Mathlib.Omega.{arith}
-use Rattle.strings.proofs.Filling.{Summed, sum_begins, sum_goes}
-use native.Mathlib.Omega.{arith}
-use mathlib.Core.Path.{refl}
+use Rattle.strings.proofs.Filling.{Summed}
+use Rattle.strings.proofs.Filling.{Summed}
 use Rattle.strings.proofs.sum_of.Given as goal
 
 abbrev pub invariant-loop-left : goal.invariant-loop-left

@@ -1,18 +1,21 @@
--- `test_buffers::digest` meets its contract: the sum is that of the words passed, below the modulus, so that the next product fits. The
--- measure is what is left.
-use mathlib.Core.Path.{sym, ap, ◌∙◌}
-use native.Mathlib.Omega.{arith}
+-- `test_buffers::digest` meets its contract: each cell is the next of those that the sum is of.
+use Rattle.std.proofs.Common.{arith, ℕ, ◌≡◌, ◌+◌, ◌*◌, ◌%◌, ◌<◌, List, length, map, get_or, sym, ◌∙◌}
+use Rattle.std.proofs.lemmas.List.{get_or-map}
 use Rattle.test_buffers.specs.Digest.{digest_of, digest_none, digest_more, digest_step}
 use Rattle.test_buffers.proofs.digest.Goals as goal
 
-pub loop-i-init : goal.loop-i-init
-loop-i-init c = (omega arith, (omega arith, sym (digest_none _)))
+digest_next : {X : Type 0} (f : X → ℕ) (xs : List X) (i sum number : ℕ) (x : X) → i < length xs → sum ≡ digest_of (map f xs) i → number ≡ f x
+    → x ≡ get_or xs i x → (sum * 65599 + number) % 4294967291 ≡ digest_of (map f xs) (i + 1)
+digest_next f xs i sum number x within so_far is there =
+    let e = get_or-map f xs i x 0 within in
+    let same : number ≡ get_or (map f xs) i 0 = cc in
+    digest_step so_far same ∙ sym (digest_more (map f xs) i)
 
-pub loop-i-preserved : goal.loop-i-preserved
-loop-i-preserved c = (
-  omega (arith, c.loop-i-test.true),
-  (omega arith, digest_step c.loop-i.invariant.1.1 c.wide.ensures.value ∙ sym (digest_more _ _)),
+pub loop-cell-init : goal.loop-cell-init
+loop-cell-init g c = (omega arith, sym (digest_none _))
+
+pub loop-cell-preserved : goal.loop-cell-preserved
+loop-cell-preserved g c = (
+  omega arith,
+  digest_next _ _ _ _ _ _ c.loop-cell-test.true c.loop-cell.invariant.1 c.number.ensures.value c.cell-item.is,
 )
-
-pub returns : goal.returns
-returns c = c.loop-i.invariant.1.1 ∙ ap (digest_of _) (omega (arith, c.loop-i.invariant.0, c.loop-i-test.false))

@@ -1,5 +1,5 @@
 -- `test_report::whole_part` is safe: the call asks that x is above -1 and below 2 ^ 64, which the two tests say.
-use Rattle.std.proofs.Common.{T, sym, subst, rules}
+use Rattle.std.proofs.Common.{T, sym, subst}
 use lib.Ieee.{of_bits, neg}
 use Rattle.test_report.proofs.whole_part.Goals as goal
 

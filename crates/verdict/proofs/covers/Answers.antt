@@ -37,5 +37,5 @@ covered {n} {all} {mask} {rest} small below beyond = tells_eq rest 0 (λ e k h. 
 pub returns : goal.returns
 returns c =
     let small : c.beyond.result < 2 ^ 64 = search rules in covered small
-    (subst (λ n. Below n c.below.result) c.nonterminal_count.ensures c.below.ensures)
+    (subst (λ n. Below n c.below.result) c.nonterminal_count.ensures.value c.below.ensures)
     c.beyond.ensures

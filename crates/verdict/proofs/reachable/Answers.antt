@@ -5,7 +5,6 @@ use Rattle.verdict.proofs.reachable.Goals as goal
 
 pub gather-requires : goal.gather-requires
 gather-requires c = record {
-  ready = c.requires.ready;
   clear = c.requires.clear;
   wide = c.requires.wide;
   blank = c.requires.blank;
@@ -18,5 +17,5 @@ returns c =
       gathered = c.gather.ensures.mentions_of;
       tells = tells_as (λ f k h. (exact k).0 (f k h)) (λ f k h. (exact k).1 (f k h)) c.covers.ensures;
       blank = λ e.
-          spent_blank c.gather.ensures.uses_of _ c.requires.ready.shaped (c.covers.ensures.yes e) c.reach.ensures.spent (λ k. (c.slice_known-4-1.given k).fits);
+          spent_blank c.gather.ensures.uses_of _ c.requires.shaped (c.covers.ensures.yes e) c.reach.ensures.spent c.gather.ensures.fits;
     }

@@ -3,6 +3,6 @@ use Rattle.std.proofs.Common.{refl}
 use Rattle.pace.specs.Watch.{opened_by}
 use Rattle.pace.proofs.Watch.opened.Goals as goal
 
-pub returns : goal.returns
+pub returns-then-opens : goal.returns-then-opens
 unfolding opened_by
-returns c = refl
+returns-then-opens c = rw c.if-opens.true refl

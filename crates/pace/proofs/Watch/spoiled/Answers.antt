@@ -3,6 +3,6 @@ use Rattle.std.proofs.Common.{refl}
 use Rattle.pace.specs.Watch.{spoiled_by}
 use Rattle.pace.proofs.Watch.spoiled.Goals as goal
 
-pub returns : goal.returns
+pub returns-then-spoils : goal.returns-then-spoils
 unfolding spoiled_by
-returns c = refl
+returns-then-spoils c = rw c.if-spoils.true refl

@@ -1,0 +1,2 @@
+-- What callers cite of a block's check.
+pub mod Parts

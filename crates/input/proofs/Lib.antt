@@ -1,2 +1,0 @@
--- Lemmas on what a read came to.
-pub mod Taken

@@ -1,9 +1,0 @@
--- `test_mark_lines::main` ends: each turn leaves fewer.
-
-use Rattle.test_mark_lines.proofs.main.Goals as goal
-
-pub loop-turns-init : goal.loop-turns-init
-loop-turns-init c = tt
-
-pub loop-turns-preserved : goal.loop-turns-preserved
-loop-turns-preserved c = tt

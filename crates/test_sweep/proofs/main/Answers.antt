@@ -1,9 +1,0 @@
--- `test_sweep::main` ends: each turn leaves fewer.
-
-use Rattle.test_sweep.proofs.main.Goals as goal
-
-pub loop-turns-init : goal.loop-turns-init
-loop-turns-init c = tt
-
-pub loop-turns-preserved : goal.loop-turns-preserved
-loop-turns-preserved c = tt

@@ -1,9 +1,0 @@
-use mathlib.Core.Path.{◌≡◌, refl, ◌∙◌}
-use lib.ListN.{length}
-use Rattle.test_write.proofs.run_all.Given as goal
-
-abbrev pub invariant-loop-turns : goal.invariant-loop-turns
-invariant-loop-turns l = (length l.words ≡ length l.initial.words) × (length l.bytes ≡ length l.initial.bytes) × (length l.back ≡ length l.initial.back)
-
-abbrev pub decreases-loop-turns : goal.decreases-loop-turns
-decreases-loop-turns l = l.turns
