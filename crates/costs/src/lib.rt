@@ -69,7 +69,7 @@ fn begin_terminals(rules: &Rules<'_>, table: &mut [u32])
 {
     let terminals = rules.terminals();
     for t in 0..rules.terminal_count() {
-        table[t] = u32::from(terminals[2 * t]);
+        table[t] = u32::from(shape::insert_cost(terminals, t));
     }
 }
 

@@ -91,6 +91,7 @@ module _ (ws : List ℕ) (s : Shaped ws) {a t : ℕ} (e : a ≡ header_size ws) 
       let room : a + 2 * t - a ≡ 2 * t = omega arith in
       let at = λ (k : ℕ) (l : k < 2 * t). get_or-take (a + 2 * t - a) (drop a ws) k 0 (omega arith) ∙ get_or-drop a ws k 0 in
       record {
+        is = ap₂ (λ k l. take k (drop l ws)) (room ∙ ap (λ k. 2 * k) f) e;
         size = omega (arith, length-take (a + 2 * t - a) (drop a ws), length-drop a ws, terminals_end, f);
         cost = λ k l. at (2 * k) (omega (arith, f)) ∙ ap (λ h. get_or ws (h + 2 * k) 0) e;
         reliability = λ k l.

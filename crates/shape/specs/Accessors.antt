@@ -1,7 +1,7 @@
 -- What the accessors of a grammar that has the shape give, each with the bounds that a caller needs.
-use Rattle.std.specs.Prelude.{ℕ, ◌+◌, ◌*◌, ◌≤◌, ◌<◌, ◌≡◌, List, [], ◌∷◌, length, get_or}
+use Rattle.std.specs.Prelude.{ℕ, ◌+◌, ◌*◌, ◌≤◌, ◌<◌, ◌≡◌, List, [], ◌∷◌, length, get_or, take, drop}
 use Rattle.std.proofs.Common.{arith}
-use Rattle.grammar.specs.Words.{word, terminal_count, nonterminal_count, rule_count, opening, closing, tick_unit, insert_cost, reliability, left_side, right_side, RuleSymbol}
+use Rattle.grammar.specs.Words.{word, header_size, terminal_count, nonterminal_count, rule_count, opening, closing, tick_unit, insert_cost, reliability, left_side, right_side, RuleSymbol}
 
 -- The words that both headers have, by what they say. Word 0 tells T and which header it is.
 abbrev pub header_words : List ℕ → List ℕ
@@ -18,6 +18,7 @@ left_of_unique a b = omega (arith, a.names, b.names)
 
 -- These are the two words of each terminal.
 pub record TerminalsOf (ws xs : List ℕ) : Type 0 where
+  pub is : xs ≡ take (2 * terminal_count ws) (drop (header_size ws) ws)
   pub size : length xs ≡ 2 * terminal_count ws
   pub cost : (t : ℕ) → t < terminal_count ws → get_or xs (2 * t) 0 ≡ insert_cost ws t
   pub reliability : (t : ℕ) → t < terminal_count ws → get_or xs (2 * t + 1) 0 ≡ reliability ws t

@@ -2,7 +2,7 @@
 // do not have the shape.
 #![tactic(auto)]
 
-ghost use Rattle.std.specs.Prelude.{◌≡◌, ◌+◌, ◌*◌, ◌≤◌, ◌<◌, length, get_or};
+ghost use Rattle.std.specs.Prelude.{◌≡◌, ◌+◌, ◌*◌, ◌≤◌, ◌<◌, ℕ, List, length, get_or};
 ghost use Rattle.base.specs.Telling.{Tells};
 ghost use Rattle.grammar.specs.Words.{
   Marks,
@@ -12,8 +12,10 @@ ghost use Rattle.grammar.specs.Words.{
   UnitOne,
   closing,
   header_size,
+  insert_cost,
   nonterminal_count,
   opening,
+  reliability,
   restart_mark,
   rule_count,
   terminal_count,
@@ -281,12 +283,38 @@ fn header(words: &[u16], i: usize) -> u16
     words[i]
 }
 
+// Where the terminals' words begin.
+pub fn terminals_at(words: &[u16]) -> usize
+    requires { Shaped words.now }
+    ensures { result ≡ header_size words.now }
+{
+    header_size(words)
+}
+
 // The two words of each terminal, END's first: its insert cost and its reliability. END's counts as unlimited.
 pub fn terminal_words(words: &[u16]) -> &[u16]
     requires { Shaped words.now }
     ensures { TerminalsOf words.now result.now }
 {
-    let at = header_size(words);
+    let at = terminals_at(words);
     let count = terminal_count(words);
     &words[at..at + 2 * count]
+}
+
+// The insert cost of terminal t, of the terminals' words. Whoever goes through all terminals asks for these words once.
+pub fn insert_cost(terminals: &[u16], t: usize) -> u16
+    requires { 2 * t + 1 < length terminals.now }
+    ensures value { result ≡ get_or terminals.now (2 * t) 0 }
+    ensures cost { (ws : List ℕ) → TerminalsOf ws terminals.now → result ≡ insert_cost ws t }
+{
+    terminals[2 * t]
+}
+
+// The reliability of terminal t, as it stands in the terminals' words; END's counts as unlimited.
+pub fn reliability_of(terminals: &[u16], t: usize) -> u16
+    requires { 2 * t + 1 < length terminals.now }
+    ensures value { result ≡ get_or terminals.now (2 * t + 1) 0 }
+    ensures reliability { (ws : List ℕ) → TerminalsOf ws terminals.now → result ≡ reliability ws t }
+{
+    terminals[2 * t + 1]
 }

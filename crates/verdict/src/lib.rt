@@ -192,6 +192,6 @@ fn limits(rules: &Rules<'_>, limits: &mut [u32])
     limits[0] = u32::MAX;
     let terminals = rules.terminals();
     for t in 1..rules.terminal_count() {
-        limits[t] = u32::from(terminals[2 * t + 1]);
+        limits[t] = u32::from(shape::reliability_of(terminals, t));
     }
 }

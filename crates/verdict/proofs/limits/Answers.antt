@@ -1,6 +1,5 @@
 -- `verdict::limits` meets its contract: END and the terminals in front of t have their limits (`Limits`).
-use native.Mathlib.Omega.{arith}
-use mathlib.Core.Path.{◌∙◌}
+use Rattle.std.proofs.Common.{rules, arith}
 use Rattle.verdict.specs.Prices.{limits_begin, limits_go, limits_end}
 use Rattle.verdict.proofs.limits.Goals as goal
 
@@ -10,7 +9,7 @@ loop-t-init c = limits_begin c.args.limits.now c.requires
 pub loop-t-preserved : goal.loop-t-preserved
 loop-t-preserved c =
     limits_go c.loop-t.invariant (omega (arith, c.terminal_count-t-end.ensures.value, c.terminals-terminals.ensures.shaped.terminals_high))
-    (c.from.ensures ∙ c.terminals-terminals.ensures.terminals.reliability c.loop-t.t (omega (arith, c.terminal_count-t-end.ensures.value)))
+    (search rules)
 
 pub returns : goal.returns
 returns c =
