@@ -19,14 +19,14 @@ use std::marker::Model;
 // FIRST of each nonterminal: the tokens that stand first in its right sides, and FIRST of each nonterminal that can stand first there. START
 // has the lowest number and what it is made of mostly higher ones, so sets are passed on from the highest down. Which set feeds which is noted
 // in a table that is lent: in it, and in the other, nothing stands yet.
-pub fn firsts(rules: &Rules<'_>, null: u64, feeds: &mut [u64; 64], out: &mut [u64])
+pub fn firsts(rules: &Rules<'_>, null: u64, feeds: &mut [u64], out: &mut [u64])
     requires asked { Asked rules.now null out.old }
     requires blank { Blank 64 feeds.old }
     requires blank_2 { Blank 64 out.old }
     ensures { FirstsOf rules.now out.new }
 {
     let list = begin(rules, null, feeds, out);
-    growth::close(feeds, list, sets::greatest, out);
+    growth::close(feeds, list, true, out);
 }
 
 // FIRST of each right side, from FIRST of each nonterminal.
@@ -147,7 +147,7 @@ pub fn pass(x: u16, null: u64, firsts: &[u64], behind: u64) -> u64
 }
 
 // Every rule once: what can stand first in its right side is given to its left side. Gives the list of the nonterminals that feed one.
-fn begin(rules: &Rules<'_>, null: u64, feeds: &mut [u64; 64], out: &mut [u64]) -> u64
+fn begin(rules: &Rules<'_>, null: u64, feeds: &mut [u64], out: &mut [u64]) -> u64
     requires asked { Asked rules.now null out.old }
     requires begun { Begun rules.now feeds.old out.old 0 }
     ensures { AllLed rules.now null feeds.new out.new result }

@@ -25,7 +25,7 @@ pub fn follows(masks: &Masks<'_>, out: &mut [u64])
     let mut feeds = [0u64; 64];
     growth::add_to(out, 0, sets::with(0, 0));
     let list = begin(masks, &mut feeds, out);
-    growth::close(&feeds, list, sets::least, out);
+    growth::close(&feeds, list, false, out);
 }
 
 // Every rule once: its nonterminals get what begins the rest behind them, and its left side feeds those that can stand last. Gives the

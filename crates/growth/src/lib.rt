@@ -20,9 +20,24 @@ pub fn add_to(all: &mut [u64], k: usize, mask: u64) -> bool
 }
 
 // Passes each set on to the sets that it feeds, until nothing changes. The list has the sets that may have to be passed on: at first all
-// that feed one, then those that have grown. It is a word of bits, so that none stands there twice. `take` says which of its numbers is
-// next: that changes how often a set is passed on, and not what comes of it.
-pub fn close<F: Fn(u64) -> u16>(feeds: &[u64; 64], list: u64, take: F, sets: &mut [u64])
+// that feed one, then those that have grown. It is a word of bits, so that none stands there twice. `high` says that its greatest number is
+// taken first, else its least: that changes how often a set is passed on, and not what comes of it.
+pub fn close(feeds: &[u64], list: u64, high: bool, sets: &mut [u64])
+    requires feeds_len { length feeds.now ≡ 64 }
+    requires sets_len { length sets.old ≡ 64 }
+    requires listed { Listed feeds.now list }
+    ensures { Closing feeds.now sets.old sets.new }
+{
+    if high {
+        close_taking(feeds, list, sets::greatest, sets);
+    } else {
+        close_taking(feeds, list, sets::least, sets);
+    }
+}
+
+// The same, where `take` says which number of the list is next.
+pub fn close_taking<F: Fn(u64) -> u16>(feeds: &[u64], list: u64, take: F, sets: &mut [u64])
+    requires feeds_len { length feeds.now ≡ 64 }
     requires sets_len { length sets.old ≡ 64 }
     requires listed { Listed feeds.now list }
     requires takes { TakesOne (F.pre take) (F.post take) }
@@ -68,7 +83,8 @@ pub fn note(s: u64, i: u16, yes: bool) -> u64
 
 // The numbers that 0 comes to, where from k there is a step to each of `feeds[k]`. Those that are reached and not done are the list. What was
 // stepped on from is emptied: where all are reached, the table holds nothing then and serves the next.
-pub fn reach(feeds: &mut [u64; 64]) -> u64
+pub fn reach(feeds: &mut [u64]) -> u64
+    requires { length feeds.old ≡ 64 }
     ensures reached { Reached feeds.old result }
     ensures spent { Spent feeds.old result feeds.new }
 {

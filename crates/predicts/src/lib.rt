@@ -1,7 +1,7 @@
 // The predict test, refusal 9: no two rules of one nonterminal share a predict token.
 #![tactic(auto)]
 
-ghost use Rattle.std.specs.Prelude.{◌<◌};
+ghost use Rattle.std.specs.Prelude.{◌≡◌, ◌<◌, length};
 ghost use Rattle.grammar.specs.Words.{rule_count};
 ghost use Rattle.grammar.specs.Derivation.{NoneShared};
 ghost use Rattle.grammar.specs.Grammar.{RuleOf, start_over_end};
@@ -14,8 +14,9 @@ use firsts::Masks;
 
 // No two rules of one nonterminal share a predict token. `seen` has the union of each nonterminal's rules so far,
 // and nothing at first.
-pub fn none_shared(masks: &Masks<'_>, follows: &[u64; 64], seen: &mut [u64]) -> bool
+pub fn none_shared(masks: &Masks<'_>, follows: &[u64], seen: &mut [u64]) -> bool
     requires follows_of { FollowsOf masks.now.ws follows.now }
+    requires follows_len { length follows.now ≡ 64 }
     requires blank { Blank 64 seen.old }
     ensures { Tells (NoneShared (RuleOf masks.now.ws) start_over_end) result }
 {
@@ -33,8 +34,9 @@ pub fn none_shared(masks: &Masks<'_>, follows: &[u64; 64], seen: &mut [u64]) -> 
 }
 
 // The predict set of rule p: FIRST of its right side, with FOLLOW of its left side where the right side can be empty.
-fn predict(masks: &Masks<'_>, follows: &[u64; 64], p: usize) -> u64
+fn predict(masks: &Masks<'_>, follows: &[u64], p: usize) -> u64
     requires follows_of { FollowsOf masks.now.ws follows.now }
+    requires follows_len { length follows.now ≡ 64 }
     requires p_bound { p < rule_count masks.now.ws }
     ensures { PredictMask masks.now.ws p result }
 {

@@ -1,5 +1,6 @@
 -- `follows::follows` meets its contract: the pass begins with END behind START, and what comes of it along the list is FOLLOW
 -- (`begun_closed`).
+use Rattle.std.proofs.Common.{rules}
 use Rattle.base.specs.Blank.{blank_made}
 use Rattle.follows.specs.Feeding.{follows_begin}
 use Rattle.follows.specs.Begun.{begin_begins, begun_closed}
@@ -13,4 +14,4 @@ begin-list-requires c = record {
 
 pub returns : goal.returns
 returns c =
-    begun_closed c.begin-list.ensures.exact.asked c.begin-list.ensures.exact.exact c.begin-list.ensures.fed c.close.ensures
+    begun_closed c.begin-list.ensures.exact.asked c.begin-list.ensures.exact.exact c.begin-list.ensures.fed (search rules)

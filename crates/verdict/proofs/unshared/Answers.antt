@@ -6,4 +6,4 @@ pub follows-requires : goal.follows-requires
 follows-requires c = record { reached = c.requires; blank = blank_made 64 }
 
 pub none_shared-requires : goal.none_shared-requires
-none_shared-requires c = record { follows_of = c.follows.ensures; blank = blank_made 64 }
+none_shared-requires c = record { follows_of = c.follows.ensures; follows_len = c.follows.auto.out; blank = blank_made 64 }

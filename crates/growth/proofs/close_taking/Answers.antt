@@ -1,9 +1,9 @@
--- `growth::close` meets its contract: what is not on the list is passed on. The measure falls with each set that is taken off it.
+-- `growth::close_taking` meets its contract: what is not on the list is passed on. The measure falls with each set that is taken off it.
 use Rattle.std.proofs.Common.{◌^◌, ◌<◌, ◌≤◌, ◌*◌, refl, ◌∙◌, rules, arith}
 use Rattle.std.specs.Prelude.{sum}
 use Rattle.growth.specs.Sums.{sum_below}
 use Rattle.growth.specs.Closing.{close_begins, close_goes, close_ends, close_less}
-use Rattle.growth.proofs.close.Goals as goal
+use Rattle.growth.proofs.close_taking.Goals as goal
 
 pub loop-waiting-init : goal.loop-waiting-init
 loop-waiting-init g c =
@@ -16,7 +16,7 @@ take-k-requires g c = c.requires.takes.asks _ c.loop-waiting-test.true c.loop-wa
 pub bounds-feeds-at : goal.bounds-feeds-at
 bounds-feeds-at g c =
     let below = c.requires.takes.below _ _ c.loop-waiting-test.true c.loop-waiting.invariant.1 c.take-k.ensures in
-    omega (arith, below, c.from-at.ensures)
+    omega (arith, below, c.from-at.ensures, c.requires.feeds_len)
 
 pub bounds-sets-at : goal.bounds-sets-at
 bounds-sets-at g c =
