@@ -38,14 +38,15 @@ fn seek(
     let t = token_at(log, r);
     let limit = prices[LIMITS + usize::from(t)];
     let mut cost: u32 = 0;
-    // Kept: with an iterator from the top down, foreign tokens deep in a stack took 1.8 times as long.
-    for i in 0..height {
+    // Kept: by the place from the top down. By a count of the symbols passed, or with an iterator, foreign tokens deep in a stack took a
+    // quarter longer and more.
+    for k in (0..height).rev() {
         if limit <= cost {
             return None;
         }
-        let symbol = stack[height - 1 - i];
+        let symbol = stack[k];
         if moves::begins(masks, symbol, t) {
-            return Some(i);
+            return Some(height - 1 - k);
         }
         cost += prices[usize::from(symbol)];
     }
