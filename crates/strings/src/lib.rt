@@ -132,11 +132,15 @@ fn renew(count: usize, next: &[usize], lengths: &mut [usize]) -> bool
     requires count_in_bounds_2 { count ≤ length lengths.old }
     ensures { Renewed count next.now lengths.old lengths.new result }
 {
-    if lengths[..count] == next[..count] {
-        return false;
+    let mut changed = false;
+    // Kept: by the index, as the library's copy would have the archive for C call memcpy, and it calls memset alone.
+    for (k, &new) in next[..count].iter().enumerate() {
+        if lengths[k] != new {
+            changed = true;
+        }
+        lengths[k] = new;
     }
-    lengths[..count].copy_from_slice(&next[..count]);
-    true
+    changed
 }
 
 // The sum over a right side.
