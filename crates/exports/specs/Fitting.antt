@@ -1,7 +1,23 @@
 -- Blank buffers with the first cells written as far as they fit: fits_none to fits_four; and fits, whose values may be any.
-use Prim.Native.Nat.{ℕ, zero, suc, ◌-◌, ◌≤◌, min}
-use Rattle.std.proofs.Common.{arith, length, take_all, take_at, ◌++◌, ◌∙◌, append-nil, length-append, length-drop, length-take-le}
-use Rattle.std.proofs.lemmas.List.{take-append-le}
+-- over_more, over_full and over_ends: the same, written value by value over what a buffer held.
+use Prim.Native.Nat.{ℕ, zero, suc, ◌+◌, ◌-◌, ◌≤◌, ◌<◌, min}
+use Rattle.std.proofs.Common.{
+  arith,
+  length,
+  get_or,
+  take_all,
+  take_at,
+  take-suc,
+  drop-cons,
+  ◌++◌,
+  ◌∙◌,
+  append_assoc,
+  append-nil,
+  length-append,
+  length-drop,
+  length-take-le,
+}
+use Rattle.std.proofs.lemmas.List.{take-append-le, set_at}
 use Rattle.std.specs.Prelude.{◌≡◌, take, drop, set, replicate}
 use Rattle.std.proofs.Math.Decide.{dec_lt}
 use Rattle.std.proofs.Math.Logic.{dite}
@@ -87,3 +103,48 @@ module _ {A : Type 0} (z : A) where
       f
       ∙ (ap (λ (l : List A). l ++ replicate (length (written ++ drop n old) - n) z) front
       ∙ (ap (λ (k : ℕ). take n xs ++ replicate (k - n) z) whole ∙ fits (length old) xs n e))
+
+  -- A buffer in which the first i values are written, as far as they fit.
+  abbrev pub over : List A → List A → ℕ → List A
+  over old xs i = take (min (length old) i) xs ++ drop (min (length old) i) old
+
+  -- One value more, where it fits,
+  pub over_more : (old xs : List A) (i : ℕ) {cells : List A} {v : A} → i < length xs → i < length old → v ≡ get_or xs i v
+      → cells ≡ over old xs i → set cells i v ≡ over old xs (i + 1)
+  over_more old xs i {v = v} l room e f =
+      let here : min (length old) i ≡ i = omega arith in
+      let next : suc i ≡ min (length old) (i + 1) = omega arith in
+      ap (λ (c : List A). set c i v) (f ∙ ap (λ (n : ℕ). take n xs ++ drop n old) here)
+      ∙ (ap (λ (c : List A). set (take i xs ++ c) i v) (drop-cons old i v room)
+      ∙ (set_at (take i xs) (get_or old i v) (drop (suc i) old) v i (length-take-le i xs (omega arith))
+      ∙ (ap (λ (x : A). take i xs ++ (x ∷ drop (suc i) old)) e
+      ∙ (sym (append_assoc (take i xs) (get_or xs i v ∷ []) (drop (suc i) old))
+      ∙ (ap (λ (c : List A). c ++ drop (suc i) old) (sym (take-suc xs i v l))
+      ∙ ap (λ (n : ℕ). take n xs ++ drop n old) next)))))
+
+  -- and where it doesn't.
+  pub over_full : (old xs : List A) (i : ℕ) {cells : List A} → length old ≤ i → cells ≡ over old xs i → cells ≡ over old xs (i + 1)
+  over_full old xs i full f =
+      let same : min (length old) i ≡ min (length old) (i + 1) = omega arith in
+      f ∙ ap (λ (n : ℕ). take n xs ++ drop n old) same
+
+  -- The whole list, and blanks behind it.
+  pub over_ends : (old xs : List A) (i : ℕ) {cells new : List A} → i ≡ length xs → cells ≡ over old xs i
+      → new ≡ take (length xs) cells ++ replicate (length cells - length xs) z → new ≡ fitted z (length old) xs
+  over_ends old xs i {cells} {new} e f g =
+      let n : ℕ = min (length old) (length xs) in
+      let w : List A = take n xs ++ drop n old in
+      let size : length w ≡ length old = simp (length-append, length-drop) (omega (arith, length-take-le n xs (omega arith))) in
+      let whole : cells ≡ w = f ∙ ap (over old xs) e in
+      let end : take (length xs) w ++ replicate (length w - length xs) z ≡ take n w ++ replicate (length w - n) z =
+      dite (dec_lt (length old) (length xs))
+      (λ more.
+      let none : length w - length xs ≡ length w - n = omega (arith, size) in
+      ap (λ (k : ℕ). take (length xs) w ++ replicate k z) none
+      ∙ ap (λ (l : List A). l ++ replicate (length w - n) z)
+      (take_all (length xs) w (omega (arith, size)) ∙ sym (take_all n w (omega (arith, size)))))
+      (λ less.
+      let all : length xs ≡ n = omega arith in
+      ap (λ (k : ℕ). take k w ++ replicate (length w - k) z) all) in
+      fits_over old xs refl refl
+      (g ∙ (ap (λ (c : List A). take (length xs) c ++ replicate (length c - length xs) z) whole ∙ end))

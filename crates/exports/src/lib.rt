@@ -195,7 +195,11 @@ fn refused(counts: &mut [u64], refusal: Refusal) -> u32
 fn fit<T: Copy>(cells: &mut [T], values: &[T], blank: T)
     ensures { cells.new ≡ fitted blank (length cells.old) values.now }
 {
-    let count = cells.len().min(values.len());
-    cells[..count].copy_from_slice(&values[..count]);
-    base::fill_from(cells, count, blank);
+    // Kept: by the index, as the library's copy would have the archive for C call memcpy, and it calls memset alone.
+    for (i, &value) in values.iter().enumerate() {
+        if i < cells.len() {
+            cells[i] = value;
+        }
+    }
+    base::fill_from(cells, values.len(), blank);
 }

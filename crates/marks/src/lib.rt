@@ -232,7 +232,9 @@ fn copy(part: &[u16], tokens: &mut [u16], at: usize) -> usize
     requires { at + length part.now ≤ length tokens.old }
     ensures { Copied part.now tokens.old at tokens.new result }
 {
-    let end = at + part.len();
-    tokens[at..end].copy_from_slice(part);
-    end
+    // Kept: by the index, as the library's copy would have the archive for C call memmove, and it calls memset alone.
+    for (i, &word) in part.iter().enumerate() {
+        tokens[at + i] = word;
+    }
+    at + part.len()
 }
