@@ -1,8 +1,12 @@
-// Parts of an input, as standard input. A read that fails is told apart from the end, so that no program takes one for the other.
+// Parts of an input, as standard input, and what to print by where there is no handle of the system. A read that fails is told apart from
+// the end, so that no program takes one for the other.
 #![tactic(auto)]
 
 ghost use Rattle.input.specs.Parts.{FrontFits, FrontTaken, PartFits, PartFront, PartTaken};
 
+mod outputs;
+
+pub use outputs::{Outputs, tell};
 use std::io;
 use std::io::Read;
 

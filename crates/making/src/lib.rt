@@ -7,6 +7,7 @@ ghost use Rattle.making.specs.declared.Unmade.TheVariants.{NoNumber, Refused};
 ghost use Rattle.making.specs.Answer.{FileMade, Knows, Makes, TextRead, TextWhole};
 
 use grammar::Refusal;
+use input::Outputs;
 use spelling::Spelled;
 use std::io;
 use std::io::{Error, ErrorKind, Read};
@@ -34,9 +35,14 @@ impl From<spelling::NoNumber> for Unmade {
     }
 }
 
-// Writes the grammar file of the words of what the reader reads. Where there is none, standard error gets a line that says why. The words
-// have room for one more than a file holds, so that too many are seen; the bytes for the 11 blocks of the longest file.
-pub fn run<R: Read>(rt: &(impl Print + Eprint), reader: &mut R) {
+// Writes the grammar file of the words of what the reader reads. Where there is none, standard error gets a line that says why.
+pub fn run<R: Read>(reader: &mut R) {
+    run_on(&Outputs, reader);
+}
+
+// The same by a handle that prints, as a program has one. The words have room for one more than a file holds, so that too many are seen; the
+// bytes for the 11 blocks of the longest file.
+pub fn run_on<R: Read>(rt: &(impl Print + Eprint), reader: &mut R) {
     let mut words = [0u16; 2784];
     let mut bytes = [0u8; 5632];
     let told = match read_text(reader, &mut words) {

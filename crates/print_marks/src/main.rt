@@ -2,5 +2,5 @@
 #![tactic(auto)]
 
 fn main(rt: HostRuntime) {
-    printing::run_marks(&rt, &mut rt.stdin());
+    printing::run_marks_on(&rt, &mut rt.stdin());
 }

@@ -6,6 +6,7 @@
 ghost use Rattle.std.specs.Prelude.{ℕ, ◌≤◌, length};
 ghost use Rattle.printing.specs.Input.{InputFits, InputKept};
 
+use input::Outputs;
 use std::io;
 use std::io::{Error, ErrorKind, Read};
 
@@ -13,7 +14,12 @@ use std::io::{Error, ErrorKind, Read};
 const ROOM: usize = 30216;
 
 // Prints the listing of what the reader reads. Where a read or a write fails, standard error gets a line that says so.
-pub fn run<R: Read>(rt: &(impl Print + Eprint), reader: &mut R) {
+pub fn run<R: Read>(reader: &mut R) {
+    run_on(&Outputs, reader);
+}
+
+// The same by a handle that prints, as a program has one.
+pub fn run_on<R: Read>(rt: &(impl Print + Eprint), reader: &mut R) {
     let told = print(
         rt,
         reader,
@@ -29,7 +35,12 @@ pub fn run<R: Read>(rt: &(impl Print + Eprint), reader: &mut R) {
 }
 
 // Prints the marks of what the reader reads, one to a line, in the same way.
-pub fn run_marks<R: Read>(rt: &(impl Print + Eprint), reader: &mut R) {
+pub fn run_marks<R: Read>(reader: &mut R) {
+    run_marks_on(&Outputs, reader);
+}
+
+// The same by such a handle.
+pub fn run_marks_on<R: Read>(rt: &(impl Print + Eprint), reader: &mut R) {
     let told = print(
         rt,
         reader,

@@ -2,5 +2,5 @@
 #![tactic(auto)]
 
 fn main(rt: HostRuntime) {
-    printing::run(&rt, &mut rt.stdin());
+    printing::run(&mut rt.stdin());
 }

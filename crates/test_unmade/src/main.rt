@@ -2,6 +2,6 @@
 #![tactic(auto)]
 
 fn main(rt: HostRuntime) {
-    making::run(&rt, &mut rt.stdin());
+    making::run(&mut rt.stdin());
     let _ = println!(rt; "nothing else was printed");
 }

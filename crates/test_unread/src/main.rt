@@ -15,6 +15,6 @@ impl Read for Unreadable {
 }
 
 fn main(rt: HostRuntime) {
-    printing::run(&rt, &mut Unreadable);
+    printing::run(&mut Unreadable);
     let _ = println!(rt; "nothing else was printed");
 }

@@ -2,5 +2,5 @@
 #![tactic(auto)]
 
 fn main(rt: HostRuntime) {
-    making::run(&rt, &mut rt.stdin());
+    making::run_on(&rt, &mut rt.stdin());
 }
