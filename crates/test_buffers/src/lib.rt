@@ -7,7 +7,7 @@ ghost use Rattle.std.specs.Iterator.{at_most};
 ghost use Rattle.test_buffers.specs.Digest.{digest_of};
 
 use std::io;
-use std::io::{ErrorKind, Read};
+use std::io::Read;
 
 // ---- Buffers
 
@@ -78,7 +78,7 @@ pub fn change<T: Copy>(buffer: &mut [T], place: u16, cell: T) {
 // ---- Input
 
 // The steps of an input, each so many little endian numbers of two bytes. Nothing says that an input ends, and a loop has to: the turns are
-// more than any input has steps.
+// more than any stored input has steps.
 #[derive(Drop)]
 pub struct Steps<R, const N: usize> {
     reader: R,
@@ -87,11 +87,11 @@ pub struct Steps<R, const N: usize> {
 
 impl<R: Read, const N: usize> Steps<R, N> {
     pub fn new(reader: R) -> Steps<R, N>
-        ensures { result.reader ≡ reader }
+        ensures { result ≡ record { reader = reader; turns = 1000000 } }
     {
         Steps {
             reader,
-            turns: u64::MAX,
+            turns: 1_000_000,
         }
     }
 }
@@ -115,20 +115,22 @@ impl<R: Read + Drop, const N: usize> Iterator for Steps<R, N> {
     }
 }
 
-// The next step of an input; none where it ends before.
+// The next step of an input, by one read where the input has it whole; none where it ends before.
 fn read_step<R: Read, const N: usize>(reader: &mut R) -> io::Result<Option<[u16; N]>> {
+    let mut pairs = [[0u8; 2]; N];
+    if !fill(reader, pairs.as_flattened_mut())? {
+        return Ok(None);
+    }
     let mut numbers = [0u16; N];
-    for number in numbers.iter_mut() {
-        let Some(bytes) = read_bytes(reader)? else {
-            return Ok(None);
-        };
-        *number = u16::from_le_bytes(bytes);
+    for (number, &pair) in numbers.iter_mut().zip(&pairs) {
+        *number = u16::from_le_bytes(pair);
     }
     Ok(Some(numbers))
 }
 
 // The next text of an input, behind its length, which is a little endian number of four bytes: as much of it as the room holds stands in
-// front of the room, and so long it is there. None where the input ends before.
+// front of the room, and so long it is there. None where the input ends before. A read that fails behind the length ends the text, as the
+// end of the input does, and not what reads texts.
 pub fn read_text<R: Read>(reader: &mut R, room: &mut [u8]) -> io::Result<Option<usize>>
     ensures { IfOk result (λ text. IfSome text (λ n. n ≤ length room.old)) }
 {
@@ -136,48 +138,49 @@ pub fn read_text<R: Read>(reader: &mut R, room: &mut [u8]) -> io::Result<Option<
         return Ok(None);
     };
     let kept = size.min(room.len());
-    let read = read_full(reader, &mut room[..kept])?;
-    skip(reader, size - kept)?;
+    let (read, _) = read_full(reader, &mut room[..kept]);
+    skip(reader, size - kept);
     Ok(Some(read))
 }
 
-// Reads until the buffer is full or the input ends, and gives how many bytes that are.
-pub fn read_full<R: Read>(reader: &mut R, buffer: &mut [u8]) -> io::Result<usize>
-    ensures { IfOk result (λ n. n ≤ length buffer.old) }
+// Reads until the buffer is full, the input ends or a read fails: how many bytes that are, and whether a read failed.
+pub fn read_full<R: Read>(reader: &mut R, buffer: &mut [u8]) -> (usize, io::Result<()>)
+    ensures { result.0 ≤ length buffer.old }
 {
     let mut read = 0;
     while read < buffer.len() {
-        let more = reader.read(&mut buffer[read..])?;
-        if more == 0 {
-            break;
+        match reader.read(&mut buffer[read..]) {
+            Ok(0) => break,
+            Ok(more) => read += more,
+            Err(error) => return (read, Err(error)),
         }
-        read += more;
     }
-    Ok(read)
+    (read, Ok(()))
 }
 
 // The length that stands in front of a text; none where the input ends before.
 pub fn read_size<R: Read>(reader: &mut R) -> io::Result<Option<usize>>
     ensures { IfOk result (λ size. IfSome size (λ n. n < 4294967296)) }
 {
-    match read_bytes(reader)? {
-        Some(bytes) => Ok(Some(u32::from_le_bytes(bytes) as usize)),
-        None => Ok(None),
+    let mut bytes = [0u8; 4];
+    if !fill(reader, &mut bytes)? {
+        return Ok(None);
     }
+    Ok(Some(u32::from_le_bytes(bytes) as usize))
 }
 
-// Reads so many bytes and forgets them.
-fn skip<R: Read>(reader: &mut R, count: usize) -> io::Result<()> {
-    io::copy(&mut reader.take(count as u64), &mut io::sink())?;
-    Ok(())
+// Reads so many bytes and forgets them, where the input ends or a read fails too: what comes behind that may be part of them.
+fn skip<R: Read>(reader: &mut R, count: usize) {
+    let mut space = [0u8; 512];
+    for _ in 0..count / 512 {
+        let _ = read_full(reader, &mut space);
+    }
+    let _ = read_full(reader, &mut space[..count % 512]);
 }
 
-// The next so many bytes of an input; none where it ends before.
-fn read_bytes<R: Read, const N: usize>(reader: &mut R) -> io::Result<Option<[u8; N]>> {
-    let mut bytes = [0u8; N];
-    match reader.read_exact(&mut bytes) {
-        Ok(()) => Ok(Some(bytes)),
-        Err(error) if error.kind() == ErrorKind::UnexpectedEof => Ok(None),
-        Err(error) => Err(error),
-    }
+// Fills the buffer, and answers whether the input had as much.
+fn fill<R: Read>(reader: &mut R, buffer: &mut [u8]) -> io::Result<bool> {
+    let (read, told) = read_full(reader, buffer);
+    told?;
+    Ok(read == buffer.len())
 }

@@ -1,6 +1,7 @@
 // Hands the words that standard input makes to the setup desk, with buffers of any length, and prints each answer.
 //
-// The input is steps of eight bytes, four little endian numbers each: a kind and three values.
+// The input is steps of eight bytes, four little endian numbers each: a kind and three values. Of a kind the low byte alone
+// counts.
 //     0 PLACE WORD 0        the word at PLACE becomes WORD (at first all words are 0)
 //     1 SIZE COSTS RULES    the first SIZE words are handed in, with so many words for costs and rules, all of old content
 // compare/store makes the input, and what must be printed, by the independent implementation.
@@ -20,7 +21,7 @@ fn steps(rt: &HostRuntime) -> io::Result<()> {
     let mut rules = [0u16; 512];
     for step in Steps::<_, 4>::new(rt.stdin()) {
         let [kind, first, second, third] = step?;
-        match kind {
+        match kind.to_le_bytes()[0] {
             0 => test_buffers::change(&mut words, first, second),
             _ => {
                 let Some(words) = words.get(..usize::from(first)) else {

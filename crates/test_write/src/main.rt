@@ -1,6 +1,7 @@
 // Writes the lists of words that standard input makes, reads back what was written, and prints each answer.
 //
-// The input is steps of six bytes, three little endian numbers each: a kind and two values.
+// The input is steps of six bytes, three little endian numbers each: a kind and two values. Of a kind the low byte alone
+// counts.
 //     0 PLACE WORD    the word at PLACE becomes WORD (at first all words are 0)
 //     1 COUNT ROOM    the first COUNT words are written into a buffer of ROOM bytes, all of old content; the bytes written are read
 //                     into a buffer of COUNT words, all of old content
@@ -23,7 +24,7 @@ fn steps(rt: &HostRuntime) -> io::Result<()> {
     let mut back = [0u16; 2816];
     for step in Steps::<_, 3>::new(rt.stdin()) {
         let [kind, first, second] = step?;
-        match kind {
+        match kind.to_le_bytes()[0] {
             0 => test_buffers::change(&mut words, first, second),
             _ => run(rt, &words, first, &mut bytes, second, &mut back)?,
         }
