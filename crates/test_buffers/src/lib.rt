@@ -2,9 +2,11 @@
 // what a call leaves in a buffer.
 #![tactic(auto)]
 
-ghost use Rattle.std.specs.Prelude.{◌≡◌, ℕ, ◌<◌, ◌≤◌, length, map, replicate, IfOk, IfSome, None};
+ghost use Rattle.std.specs.Prelude.{◌≡◌, ℕ, ◌<◌, ◌≤◌, length, map, replicate, set, take, IfOk, IfSome, OnOk, None};
+ghost use Rattle.std.specs.Io.KnownBytes.{Consumes, IsAtEnd};
 ghost use Rattle.std.specs.Iterator.{at_most};
 ghost use Rattle.test_buffers.specs.Digest.{digest_of};
+ghost use Rattle.test_buffers.specs.Input.{Filled, Passed, SizeTaken, TextTaken};
 
 use std::io;
 use std::io::Read;
@@ -68,10 +70,13 @@ pub fn digest<T: Cell>(buffer: &[T]) -> u64
     sum as u64
 }
 
-// Sets a cell, where the buffer has the place.
-pub fn change<T: Copy>(buffer: &mut [T], place: u16, cell: T) {
-    if let Some(there) = buffer.get_mut(usize::from(place)) {
-        *there = cell;
+// Sets a cell, where the buffer has the place. Kept: the contract of `get_mut` does not say what the slice ends as.
+pub fn change<T: Copy>(buffer: &mut [T], place: u16, cell: T)
+    ensures { buffer.new ≡ set buffer.old place cell }
+{
+    let place = usize::from(place);
+    if place < buffer.len() {
+        buffer[place] = cell;
     }
 }
 
@@ -132,7 +137,8 @@ fn read_step<R: Read, const N: usize>(reader: &mut R) -> io::Result<Option<[u16;
 // front of the room, and so long it is there. None where the input ends before. A read that fails behind the length ends the text, as the
 // end of the input does, and not what reads texts.
 pub fn read_text<R: Read>(reader: &mut R, room: &mut [u8]) -> io::Result<Option<usize>>
-    ensures { IfOk result (λ text. IfSome text (λ n. n ≤ length room.old)) }
+    ensures fits { IfOk result (λ text. IfSome text (λ n. n ≤ length room.old)) }
+    ensures taken { TextTaken (R.remaining reader.old) (R.remaining reader.new) room.new result }
 {
     let Some(size) = read_size(reader)? else {
         return Ok(None);
@@ -145,7 +151,9 @@ pub fn read_text<R: Read>(reader: &mut R, room: &mut [u8]) -> io::Result<Option<
 
 // Reads until the buffer is full, the input ends or a read fails: how many bytes that are, and whether a read failed.
 pub fn read_full<R: Read>(reader: &mut R, buffer: &mut [u8]) -> (usize, io::Result<()>)
-    ensures { result.0 ≤ length buffer.old }
+    ensures fits { result.0 ≤ length buffer.old }
+    ensures taken { Consumes (R.remaining reader.old) (R.remaining reader.new) (take result.0 buffer.new) }
+    ensures ended { OnOk result.1 (result.0 < length buffer.old → IsAtEnd (R.remaining reader.new)) }
 {
     let mut read = 0;
     while read < buffer.len() {
@@ -160,7 +168,8 @@ pub fn read_full<R: Read>(reader: &mut R, buffer: &mut [u8]) -> (usize, io::Resu
 
 // The length that stands in front of a text; none where the input ends before.
 pub fn read_size<R: Read>(reader: &mut R) -> io::Result<Option<usize>>
-    ensures { IfOk result (λ size. IfSome size (λ n. n < 4294967296)) }
+    ensures fits { IfOk result (λ size. IfSome size (λ n. n < 4294967296)) }
+    ensures taken { SizeTaken (R.remaining reader.old) (R.remaining reader.new) result }
 {
     let mut bytes = [0u8; 4];
     if !fill(reader, &mut bytes)? {
@@ -170,7 +179,9 @@ pub fn read_size<R: Read>(reader: &mut R) -> io::Result<Option<usize>>
 }
 
 // Reads so many bytes and forgets them, where the input ends or a read fails too: what comes behind that may be part of them.
-fn skip<R: Read>(reader: &mut R, count: usize) {
+fn skip<R: Read>(reader: &mut R, count: usize)
+    ensures { Passed (R.remaining reader.old) (R.remaining reader.new) count }
+{
     let mut space = [0u8; 512];
     for _ in 0..count / 512 {
         let _ = read_full(reader, &mut space);
@@ -179,7 +190,9 @@ fn skip<R: Read>(reader: &mut R, count: usize) {
 }
 
 // Fills the buffer, and answers whether the input had as much.
-fn fill<R: Read>(reader: &mut R, buffer: &mut [u8]) -> io::Result<bool> {
+fn fill<R: Read>(reader: &mut R, buffer: &mut [u8]) -> io::Result<bool>
+    ensures { IfOk result (λ whole. Filled (R.remaining reader.old) (R.remaining reader.new) buffer.new whole) }
+{
     let (read, told) = read_full(reader, buffer);
     told?;
     Ok(read == buffer.len())

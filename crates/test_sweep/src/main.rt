@@ -5,7 +5,8 @@
 use std::io;
 
 fn main(rt: HostRuntime) {
-    // A read or a write that fails ends it, and nothing is left to be done then.
+    // A length that cannot be read or a write that fails ends it, and nothing is left to be done then. A read that fails behind a length ends
+    // its text alone.
     let _ = steps(&rt);
 }
 

@@ -1,0 +1,2 @@
+-- Lemmas on what was taken of an input.
+pub mod Taking
