@@ -1,7 +1,7 @@
 -- `desk::costs` meets its contract: both buffers are clear when the words are judged, and stay so where they are refused.
 use Rattle.grammar.specs.Theory.Fills.{lent_clear}
 use Rattle.std.proofs.lemmas.Result.{err_from_is_err_and}
-use Rattle.std.proofs.Common.{arith}
+use Rattle.std.proofs.Common.{arith, length, rules}
 use Rattle.std.proofs.lemmas.Grind.{common_steps}
 use Rattle.base.specs.Blank.{blank_made}
 use Rattle.verdict.specs.Answer.{verdict_in}
@@ -16,8 +16,8 @@ list-requires c =
     record {
       accepts = verdict_in c.priced.ensures c.in_ok-priced.was;
       priced = c.priced.ensures.known c.in_ok-priced.was;
-      costs_clear = lent_clear c.fill.auto.self (zeros _ (grind (arith, common_steps)));
-      rules_clear = lent_clear c.fill-2.auto.self (zeros _ (grind (arith, common_steps)));
+      costs_clear = lent_clear {room = length c.args.costs.now} (search rules) (zeros _ (grind (arith, common_steps)));
+      rules_clear = lent_clear {room = length c.args.rules.now} (search rules) (zeros _ (grind (arith, common_steps)));
     }
 
 pub returns-in_err-priced : goal.returns-in_err-priced
@@ -28,4 +28,4 @@ returns-in_err-priced c =
     (verdict_in c.priced.ensures c.in_err-priced.was))
 
 pub returns : goal.returns
-returns c = as_lent c.fill.auto.self c.fill-2.auto.self c.list.ensures
+returns c = as_lent (search rules) (search rules) c.list.ensures
