@@ -3,3 +3,4 @@ pub mod Passing
 pub mod Looking
 pub mod Standing
 pub mod Watching
+pub mod Refusing
