@@ -222,7 +222,7 @@ impl Watch {
         if self.since.is_some() && closes {
             self.count += 1;
             self.sum += u64::from(time(self.since.unwrap(), tick));
-            self.since = None;
+            self.since = None; // A second closing mark closes nothing.
         }
         self
     }
