@@ -7,7 +7,7 @@
 #![tactic(auto)]
 
 use std::io;
-use test_buffers::Steps;
+use test_buffers::FirstSteps;
 
 fn main(rt: HostRuntime) {
     // A read or a write that fails ends it, and nothing is left to be done then.
@@ -16,7 +16,7 @@ fn main(rt: HostRuntime) {
 
 fn steps(rt: &HostRuntime) -> io::Result<()> {
     let mut words = [0u16; 4096];
-    for step in Steps::<_, 3>::new(rt.stdin()) {
+    for step in FirstSteps::<_, 3>::new(rt.stdin()) {
         let [kind, first, second] = step?;
         match kind {
             0 => test_buffers::change(&mut words, first, second),

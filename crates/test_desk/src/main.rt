@@ -8,7 +8,7 @@
 #![tactic(auto)]
 
 use std::io;
-use test_buffers::Steps;
+use test_buffers::FirstSteps;
 
 fn main(rt: HostRuntime) {
     // A read or a write that fails ends it, and nothing is left to be done then.
@@ -19,7 +19,7 @@ fn steps(rt: &HostRuntime) -> io::Result<()> {
     let mut words = [0u16; 4096];
     let mut costs = [0u16; 512];
     let mut rules = [0u16; 512];
-    for step in Steps::<_, 4>::new(rt.stdin()) {
+    for step in FirstSteps::<_, 4>::new(rt.stdin()) {
         let [kind, first, second, third] = step?;
         match kind.to_le_bytes()[0] {
             0 => test_buffers::change(&mut words, first, second),

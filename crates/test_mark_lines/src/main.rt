@@ -16,7 +16,7 @@ fn steps(rt: &HostRuntime) -> io::Result<()> {
     let mut out = mark_lines::buffer();
     // More turns than any stored input has texts.
     for _ in 0..100_000 {
-        let Some(size) = test_buffers::read_text(&mut reader, &mut room)? else {
+        let Some(size) = test_buffers::read_text_once(&mut reader, &mut room)? else {
             break;
         };
         let count = mark_lines::show(&room, size, &mut out);

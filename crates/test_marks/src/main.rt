@@ -10,7 +10,7 @@
 
 use grammar::Counts;
 use std::io;
-use test_buffers::Steps;
+use test_buffers::FirstSteps;
 
 fn main(rt: HostRuntime) {
     // A read or a write that fails ends it, and nothing is left to be done then.
@@ -23,7 +23,7 @@ fn steps(rt: &HostRuntime) -> io::Result<()> {
     let mut edits = [0u16; 4096];
     let mut rules = [0u16; 4096];
     let mut tokens = [0u16; 65535];
-    for step in Steps::<_, 6>::new(rt.stdin()) {
+    for step in FirstSteps::<_, 6>::new(rt.stdin()) {
         let [kind, first, second, third, fourth, fifth] = step?;
         match kind {
             0 => test_buffers::change(&mut words, first, second),

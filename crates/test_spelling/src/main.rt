@@ -22,7 +22,7 @@ fn steps(rt: &HostRuntime) -> io::Result<()> {
     let mut words = [0u16; 2784];
     // More turns than any stored input has texts.
     for _ in 0..1_000_000 {
-        let Some(size) = test_buffers::read_size(&mut reader)? else {
+        let Some(size) = test_buffers::read_size_once(&mut reader)? else {
             break;
         };
         // The word buffer holds old content before.

@@ -11,7 +11,7 @@
 ghost use Rattle.std.specs.Prelude.{◌≤◌, length};
 
 use std::io;
-use test_buffers::Steps;
+use test_buffers::FirstSteps;
 
 fn main(rt: HostRuntime) {
     // A read or a write that fails ends it, and nothing is left to be done then.
@@ -22,7 +22,7 @@ fn steps(rt: &HostRuntime) -> io::Result<()> {
     let mut words = [0u16; 2816];
     let mut bytes = [0u8; 9216];
     let mut back = [0u16; 2816];
-    for step in Steps::<_, 3>::new(rt.stdin()) {
+    for step in FirstSteps::<_, 3>::new(rt.stdin()) {
         let [kind, first, second] = step?;
         match kind.to_le_bytes()[0] {
             0 => test_buffers::change(&mut words, first, second),
