@@ -6,10 +6,10 @@ ghost use Rattle.std.specs.Prelude.{◌≡◌, ℕ, ◌<◌, ◌≤◌, length, 
 ghost use Rattle.std.specs.Io.KnownBytes.{Consumes, IsAtEnd};
 ghost use Rattle.std.specs.Iterator.{at_most};
 ghost use Rattle.test_buffers.specs.Digest.{digest_of};
-ghost use Rattle.test_buffers.specs.Input.{Filled, Passed, SizeIn, SizeTaken, TextTaken};
+ghost use Rattle.test_buffers.specs.Input.{Filled, Passed, SizeIn, SizeTaken, TextIn, TextTaken};
 
 use std::io;
-use std::io::{ErrorKind, Read};
+use std::io::{Error, ErrorKind, Read};
 
 // ---- Buffers
 
@@ -185,7 +185,8 @@ fn read_step<R: Read, const N: usize>(reader: &mut R) -> io::Result<Option<[u16;
 // front of the room, and so long it is there. None where the input ends before. A read that a signal interrupts is tried again, but in what the
 // room holds.
 pub fn read_text<R: Read>(reader: &mut R, room: &mut [u8]) -> io::Result<Option<usize>>
-    ensures { IfOk result (λ text. IfSome text (λ n. n ≤ length room.old)) }
+    ensures fits { IfOk result (λ text. IfSome text (λ n. n ≤ length room.old)) }
+    ensures taken { IfOk result (λ text. IfSome text (λ n. TextIn (R.remaining reader.old) (R.remaining reader.new) room.new n)) }
 {
     let Some(size) = read_size(reader)? else {
         return Ok(None);
@@ -193,8 +194,30 @@ pub fn read_text<R: Read>(reader: &mut R, room: &mut [u8]) -> io::Result<Option<
     let fit = size.min(room.len());
     let (read, told) = read_full(reader, &mut room[..fit]);
     told?;
-    io::copy(&mut reader.take((size - fit) as u64), &mut io::sink())?;
+    pass(reader, size - fit)?;
     Ok(Some(read))
+}
+
+// Reads so many bytes and forgets them, or as many as the input has. A read that a signal interrupts is tried again: the turns are more than
+// any input needs.
+fn pass<R: Read>(reader: &mut R, count: usize) -> io::Result<()>
+    ensures { Passed (R.remaining reader.old) (R.remaining reader.new) count }
+{
+    let mut space = [0u8; 512];
+    let mut left = count;
+    for _ in 0..u64::MAX {
+        if left == 0 {
+            return Ok(());
+        }
+        let most = left.min(512);
+        match reader.read(&mut space[..most]) {
+            Ok(0) => return Ok(()),
+            Ok(more) => left -= more,
+            Err(error) if error.kind() == ErrorKind::Interrupted => {}
+            Err(error) => return Err(error),
+        }
+    }
+    Err(Error::from(ErrorKind::TimedOut))
 }
 
 // The same for the test programs: a read that a signal interrupts has failed, and a read that fails behind the length ends the text, as the
@@ -287,7 +310,6 @@ fn fill<R: Read>(reader: &mut R, buffer: &mut [u8]) -> io::Result<bool>
 #[cfg(test)]
 mod tests {
     use super::*;
-    use std::io::Error;
     use std::test::Fail;
 
     // Reads a byte at a time, and a signal interrupts each read before it.
