@@ -198,18 +198,18 @@ pub fn read_text<R: Read>(reader: &mut R, room: &mut [u8]) -> io::Result<Option<
     Ok(Some(read))
 }
 
-// Reads so many bytes and forgets them, or as many as the input has. A read that a signal interrupts is tried again: the turns are more than
-// any input needs.
+// Reads so many bytes and forgets them, or as many as the input has, by as long reads as std's `copy`. One that a signal interrupts is tried
+// again: the turns are more than any input needs.
 fn pass<R: Read>(reader: &mut R, count: usize) -> io::Result<()>
     ensures { Passed (R.remaining reader.old) (R.remaining reader.new) count }
 {
-    let mut space = [0u8; 512];
+    let mut space = [0u8; 8192];
     let mut left = count;
     for _ in 0..u64::MAX {
         if left == 0 {
             return Ok(());
         }
-        let most = left.min(512);
+        let most = left.min(8192);
         match reader.read(&mut space[..most]) {
             Ok(0) => return Ok(()),
             Ok(more) => left -= more,

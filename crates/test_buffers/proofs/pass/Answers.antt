@@ -1,5 +1,5 @@
 -- `test_buffers::pass` meets its contract: a read that came passes over as much, and one that a signal interrupted took nothing.
-use Rattle.std.proofs.Common.{rules, arith, ◌-◌}
+use Rattle.std.proofs.Common.{rules, ◌-◌}
 use Rattle.test_buffers.proofs.Taking.{passed_more, passed_kept}
 use Rattle.test_buffers.proofs.pass.Goals as goal
 use Rattle.test_buffers.proofs.pass.Goals.{in-Ok, in-Err}

@@ -1,4 +1,4 @@
--- What is left is what was not passed over.
+-- No more was passed over than is not left.
 use Rattle.std.proofs.Common.{◌≤◌, ◌-◌}
 use Rattle.test_buffers.specs.Input.{Passed}
 use Rattle.test_buffers.proofs.pass.Given as goal
