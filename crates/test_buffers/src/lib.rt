@@ -182,8 +182,8 @@ fn read_step<R: Read, const N: usize>(reader: &mut R) -> io::Result<Option<[u16;
 }
 
 // The next text of an input, behind its length, which is a little endian number of four bytes: as much of it as the room holds stands in
-// front of the room, and so long it is there. None where the input ends before. A read that a signal interrupts is tried again, but in what the
-// room holds.
+// front of the room, and so long it is there. None where the input ends before. A read that a signal interrupts is tried again, but not one of
+// the part that the room holds.
 pub fn read_text<R: Read>(reader: &mut R, room: &mut [u8]) -> io::Result<Option<usize>>
     ensures fits { IfOk result (λ text. IfSome text (λ n. n ≤ length room.old)) }
     ensures taken { IfOk result (λ text. IfSome text (λ n. TextIn (R.remaining reader.old) (R.remaining reader.new) room.new n)) }
@@ -192,10 +192,10 @@ pub fn read_text<R: Read>(reader: &mut R, room: &mut [u8]) -> io::Result<Option<
         return Ok(None);
     };
     let fit = size.min(room.len());
-    let (read, told) = read_full(reader, &mut room[..fit]);
+    let (came, told) = read_full(reader, &mut room[..fit]);
     told?;
     pass(reader, size - fit)?;
-    Ok(Some(read))
+    Ok(Some(came))
 }
 
 // Reads so many bytes and forgets them, or as many as the input has, by as long reads as std's `copy`. One that a signal interrupts is tried
@@ -316,13 +316,13 @@ mod tests {
     #[derive(Drop)]
     struct Interrupted<'a> {
         bytes: &'a [u8],
-        whole: bool,
+        interrupted: bool,
     }
 
     impl<'a> Read for Interrupted<'a> {
         fn read(&mut self, buf: &mut [u8]) -> io::Result<usize> {
-            self.whole = !self.whole;
-            if self.whole {
+            self.interrupted = !self.interrupted;
+            if self.interrupted {
                 return Err(Error::from(ErrorKind::Interrupted));
             }
             let room = buf.len().min(1);
@@ -332,15 +332,17 @@ mod tests {
 
     #[test]
     fn interrupted_reads_are_tried_again(rt: HostRuntime) -> Result<(), Fail> {
-        let bytes: [u8; 13] = [3, 0, 0, 0, 65, 66, 67, 9, 0, 0, 0, 1, 2];
+        let bytes: [u8; 18] = [3, 0, 0, 0, 65, 66, 67, 9, 0, 0, 0, 1, 2, 1, 0, 0, 0, 68];
         let mut reader = Interrupted {
             bytes: &bytes,
-            whole: false,
+            interrupted: false,
         };
         assert_eq!(rt; read_text(&mut reader, &mut [])?, Some(0));
         assert_eq!(rt; read_size(&mut reader)?, Some(9));
         let step: Option<[u16; 1]> = Steps::new(&mut reader).next().transpose()?;
         assert_eq!(rt; step, Some([513]));
+        // But not those of what the room holds; and a length has four bytes.
+        assert!(rt; read_text(&mut reader, &mut [0]).is_err());
         assert_eq!(rt; read_size(&mut reader)?, None);
         Ok(())
     }
@@ -350,7 +352,7 @@ mod tests {
         let bytes: [u8; 4] = [3, 0, 0, 0];
         let mut reader = Interrupted {
             bytes: &bytes,
-            whole: false,
+            interrupted: false,
         };
         assert!(rt; read_size_once(&mut reader).is_err());
         assert!(rt; read_text_once(&mut reader, &mut []).is_err());

@@ -1,4 +1,4 @@
--- No more was passed over than is not left.
+-- At most what is not left was passed over.
 use Rattle.std.proofs.Common.{◌≤◌, ◌-◌}
 use Rattle.test_buffers.specs.Input.{Passed}
 use Rattle.test_buffers.proofs.pass.Given as goal
